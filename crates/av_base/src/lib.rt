@@ -1,0 +1,21 @@
+//! Numbers, formats and shapes that every crate shares, and the two containers of public records.
+#![tactic(auto)]
+
+mod containers;
+mod formats;
+mod numbers;
+mod planes;
+mod shapes;
+
+pub use containers::{List, Text};
+pub use formats::{Format, Layout, Media, PixelFormat, SampleFormat};
+pub use numbers::{Ratio, TimeBase, reduce};
+pub use planes::{picture_bytes, plane_count, plane_size};
+pub use shapes::{AudioProps, Props, Shape, VideoProps};
+
+/// There was no memory for it.
+#[derive(Clone, Copy, Debug, PartialEq, Eq)]
+pub struct NoMemory;
+
+#[cfg(test)]
+mod tests;
