@@ -13,9 +13,23 @@ pub use numbers::{Ratio, TimeBase, reduce};
 pub use planes::{picture_bytes, plane_count, plane_size};
 pub use shapes::{AudioProps, Props, Shape, VideoProps};
 
+use std::alloc::{AllocError, AllocFailed};
+
 /// There was no memory for it.
 #[derive(Clone, Copy, Debug, PartialEq, Eq)]
 pub struct NoMemory;
+
+impl From<AllocError> for NoMemory {
+    fn from(_refused: AllocError) -> NoMemory {
+        NoMemory
+    }
+}
+
+impl<T: Drop> From<AllocFailed<T>> for NoMemory {
+    fn from(_refused: AllocFailed<T>) -> NoMemory {
+        NoMemory
+    }
+}
 
 #[cfg(test)]
 mod tests;

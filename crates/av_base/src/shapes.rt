@@ -1,7 +1,11 @@
 //! What is the same for every frame of a stream.
 
+ghost use Rattle.std.specs.Prelude.{◌≡◌, ◌<◌};
+ghost use Rattle.av_base.specs.Shapes.{IsLawful, IsVideo, planes_of, columns_of, rows_of};
+
 use crate::formats::{Format, Layout};
 use crate::numbers::{Ratio, TimeBase};
+use crate::planes::{plane_count, plane_size};
 
 /// What is the same for every picture of a stream beside its format.
 #[derive(Clone, Copy, Debug, PartialEq, Eq)]
@@ -46,4 +50,33 @@ pub struct Shape {
     pub format: Format,
     /// Everything else.
     pub props: Props,
+}
+
+impl Shape {
+    /// How many planes each picture of the stream has.
+    pub fn planes(&self) -> u32
+        requires { IsVideo self.now.format }
+        ensures { result ≡ planes_of self.now }
+    {
+        match self.format {
+            Format::Video(format) => plane_count(format),
+            Format::Audio(_) => unreachable!(),
+        }
+    }
+
+    /// How many columns and rows a plane of each picture of the stream has.
+    pub fn plane_size(&self, plane: u32) -> (u32, u32)
+        requires lawful { IsLawful self.now }
+        requires video { IsVideo self.now.format }
+        requires plane { plane < planes_of self.now }
+        ensures columns { result.0 ≡ columns_of self.now plane }
+        ensures rows { result.1 ≡ rows_of self.now plane }
+    {
+        match (self.format, self.props) {
+            (Format::Video(format), Props::Video(props)) => {
+                plane_size(format, props.width, props.height, plane)
+            }
+            _ => unreachable!(),
+        }
+    }
 }

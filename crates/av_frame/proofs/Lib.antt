@@ -1,0 +1,3 @@
+pub mod Chunks
+mod RowLemmas
+mod PictureLemmas
