@@ -1,3 +1,4 @@
 pub mod Chunks
 mod RowLemmas
 mod PictureLemmas
+mod PaintLemmas
