@@ -1,1 +1,2 @@
+pub mod LowestTerms
 mod Ratios

@@ -1,5 +1,5 @@
 -- Fractions in lowest terms.
-use Rattle.std.specs.Prelude.{◌≡◌, ◌<◌, ◌^◌, ◌*◌, ℕ}
+use Rattle.std.specs.Prelude.{◌<◌, ◌^◌, ℕ}
 use Rattle.std.specs.Int.{IsGcd}
 use Rattle.av_base.specs.declared.numbers.Ratio.{Ratio}
 use Rattle.av_base.specs.declared.numbers.TimeBase.{TimeBase}

@@ -12,7 +12,6 @@ pub use formats::{Format, Layout, Media, PixelFormat, SampleFormat};
 pub use numbers::{Ratio, TimeBase, reduce};
 pub use planes::{picture_bytes, plane_count, plane_size};
 pub use shapes::{AudioProps, Props, Shape, VideoProps};
-
 use std::alloc::{AllocError, AllocFailed};
 
 /// There was no memory for it.

@@ -1,6 +1,7 @@
 -- Parts of a list of bytes.
-use Rattle.std.proofs.Common.{◌≡◌, ℕ, zero, suc, ◌+◌, ◌≤◌, List, [], ◌∷◌, length, sym, refl, ap, arith}
+use Rattle.std.proofs.Common.{◌≡◌, ℕ, zero, suc, ◌+◌, ◌-◌, ◌≤◌, List, [], ◌∷◌, length, take, drop, sym, refl, ap, ◌∙◌, arith}
 use Rattle.std.specs.Simd.Lanes.{chunk, put_chunk}
+use Rattle.std.proofs.lemmas.List.{drop-take, take-take, drop-drop}
 
 pub put_chunk_none : (i : ℕ) (xs : List ℕ) → put_chunk i xs [] ≡ xs
 put_chunk_none i [] = refl
@@ -26,3 +27,14 @@ put_chunk-chunk (x ∷ xs) part zero (suc o) (suc n) (suc b) e h = ap (λ (zs : 
 put_chunk-chunk (x ∷ xs) part zero zero (suc n) (suc b) e h = absurd (omega arith)
 put_chunk-chunk (x ∷ xs) [] zero zero (suc n) zero e h = ap (λ (zs : List ℕ). x ∷ zs) (put_chunk_same zero n xs)
 put_chunk-chunk (x ∷ xs) (y ∷ ys) zero zero (suc n) zero e h = ap (λ (zs : List ℕ). y ∷ zs) (put_chunk-chunk xs ys zero zero n zero refl (omega arith))
+
+-- a part of a part
+pub chunk-chunk : (a o n m b : ℕ) (bs : List ℕ) → b ≡ a + o → o + n ≤ m → chunk o n (chunk a m bs) ≡ chunk b n bs
+chunk-chunk a o n m b bs e h =
+    let k = m - o in
+    let whole : m ≡ o + k = omega arith in
+    ap (λ (j : ℕ). take n (drop o (take j (drop a bs)))) whole
+    ∙ (ap (λ (z : List ℕ). take n z) (drop-take o k (drop a bs))
+    ∙ (take-take n k (drop o (drop a bs)) (omega arith)
+    ∙ (ap (λ (z : List ℕ). take n z) (drop-drop o a bs)
+    ∙ ap (λ (j : ℕ). chunk j n bs) (sym e))))

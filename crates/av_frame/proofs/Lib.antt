@@ -1,4 +1,4 @@
 pub mod Chunks
 mod RowLemmas
-mod PictureLemmas
+pub mod PictureLemmas
 mod PaintLemmas

@@ -1,11 +1,11 @@
 -- A picture that is painted row by row, and plane by plane.
-use Rattle.std.proofs.Common.{◌≡◌, ℕ, ◌+◌, ◌<◌, ◌≤◌, List, [], length, get_or, set, map, ap, sym, ◌∙◌, subst, arith, refl}
+use Rattle.std.proofs.Common.{◌≡◌, ℕ, ◌+◌, ◌<◌, ◌≤◌, List, [], length, get_or, set, ap, sym, ◌∙◌, subst, arith, refl}
 use Rattle.std.proofs.lemmas.List.{get_or-set_same, set-get_or, set-set, length-set, get_or_default}
 use Rattle.std.proofs.lemmas.List.FromFn.{fill_by_all}
 use Rattle.std.proofs.lemmas.List.Edits.{fill_by_more}
 use Rattle.av_base.specs.declared.shapes.Shape.{Shape}
 use Rattle.av_base.specs.Shapes.{planes_of, columns_of, rows_of}
-use Rattle.av_frame.specs.Rasters.{Raster, IsRaster, row_of, row_by, rows_by, raster_by, blank_raster}
+use Rattle.av_frame.specs.Rasters.{Raster, row_of, row_by, rows_by, raster_by, blank_raster}
 use Rattle.av_frame.specs.Frames.{EditValue, plane_at, with_row, IsPicture, planes_by}
 use Rattle.av_frame.proofs.PictureLemmas.{IsPicture-row}
 
@@ -35,9 +35,9 @@ module _ {old now : EditValue} {p : ℕ} {f : ℕ → ℕ → ℕ} {r : ℕ} (h 
   pub plane_height : (plane_at now.planes p).height ≡ rows_of old.shape p
   plane_height = h.picture.sizes.height p inside ∙ ap (λ (s : Shape). rows_of s p) shape
 
-  pub HasRows-more : {next : EditValue} (buffer : List ℕ) → r < rows_of old.shape p → length buffer ≡ columns_of old.shape p → ((c : ℕ) → c < length buffer → get_or buffer c 0 ≡ f r c)
+  pub HasRows-more : {next : EditValue} (buffer : List ℕ) → r < rows_of old.shape p → length buffer ≡ columns_of old.shape p → ((c : ℕ) → get_or buffer c 0 < 256) → ((c : ℕ) → c < length buffer → get_or buffer c 0 ≡ f r c)
       → next ≡ record now { planes = with_row now.planes p r buffer } → HasRows old next p f (r + 1)
-  HasRows-more {next} buffer low long each put =
+  HasRows-more {next} buffer low long bytes each put =
       let x = plane_at now.planes p in
       let y = record x { rows = set x.rows r buffer } in
       let count : p < length now.planes = let n = h.picture.sizes.count in let i = inside in omega arith in
@@ -49,7 +49,7 @@ module _ {old now : EditValue} {p : ℕ} {f : ℕ → ℕ → ℕ} {r : ℕ} (h 
         edit = ap (λ (z : List Raster). record now { planes = z }) whole
             ∙ (ap (λ (s : Shape). record { shape = s; planes = set old.planes p y }) shape
             ∙ ap (λ (z : Raster). record old { planes = set old.planes p z }) (sym here));
-        picture = IsPicture-row now.shape now.planes p r x y buffer h.picture inside (get_or_default now.planes p (blank_raster 0 0) x count) refl high wide;
+        picture = IsPicture-row now.shape now.planes p r x y buffer h.picture inside (get_or_default now.planes p (blank_raster 0 0) x count) refl high wide bytes;
         rows = λ k below.
             ap (λ (z : Raster). row_of z k) here
             ∙ (ap (λ (z : List ℕ). get_or (set x.rows r z) k []) (fill_by_all (f r) buffer (columns_of old.shape p) 0 long (λ c less. each c (omega arith)))
@@ -61,7 +61,7 @@ module _ {old now : EditValue} {p : ℕ} {f : ℕ → ℕ → ℕ} {r : ℕ} (h 
       let x = plane_at now.planes p in
       let long : length x.rows ≡ rows_of old.shape p = (h.picture.sizes.rows p inside).rows_long ∙ plane_height in
       let rows : x.rows ≡ rows_by (rows_of old.shape p) (columns_of old.shape p) f =
-          fill_by_all (λ (j : ℕ). row_by (columns_of old.shape p) (f j)) x.rows (rows_of old.shape p) [] long (λ k below. h.rows k (omega arith)) in
+      fill_by_all (λ (j : ℕ). row_by (columns_of old.shape p) (f j)) x.rows (rows_of old.shape p) [] long (λ k below. h.rows k (omega arith)) in
       h.edit
       ∙ (ap (λ (n : ℕ). record old { planes = set old.planes p (record x { width = n }) }) plane_width
       ∙ (ap (λ (n : ℕ). record old { planes = set old.planes p (record { width = columns_of old.shape p; height = n; rows = x.rows }) }) plane_height
@@ -78,7 +78,7 @@ pub HasPlanes-more : {old now next : EditValue} {f : ℕ → ℕ → ℕ → ℕ
 HasPlanes-more {old} {now} {next} {f} {q} h less put =
     let x = raster_by (columns_of now.shape q) (rows_of now.shape q) (f q) in
     let same : raster_by (columns_of now.shape q) (rows_of now.shape q) (f q) ≡ raster_by (columns_of old.shape q) (rows_of old.shape q) (f q) =
-        ap (λ (s : Shape). raster_by (columns_of s q) (rows_of s q) (f q)) h.shape in
+    ap (λ (s : Shape). raster_by (columns_of s q) (rows_of s q) (f q)) h.shape in
     record {
       shape = ap (λ (e : EditValue). e.shape) put ∙ h.shape;
       count = ap (λ (e : EditValue). length e.planes) put ∙ (length-set now.planes q x ∙ h.count);

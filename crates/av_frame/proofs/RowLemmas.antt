@@ -1,15 +1,14 @@
 -- Rows among bytes.
-use Rattle.std.proofs.Common.{◌≡◌, ◌≢◌, ℕ, zero, suc, ◌+◌, ◌-◌, ◌*◌, ◌/◌, ◌^◌, ◌<◌, ◌≤◌, List, [], ◌∷◌, ◌++◌, length, get_or, set, take, drop, replicate, reverse, map, not, sym, refl, ap, ◌∙◌, arith, Bool, true, false, cond, ⊎_elim, ◌⊎◌, inl, inr, subst}
+use Rattle.std.proofs.Common.{◌≡◌, ◌≢◌, ℕ, zero, suc, ◌+◌, ◌-◌, ◌*◌, ◌^◌, ◌<◌, ◌≤◌, List, [], ◌∷◌, length, get_or, set, take, replicate, sym, refl, ap, ◌∙◌, arith, Bool, true, false, cond, ⊎_elim, ◌⊎◌, inl, inr, subst}
 use Rattle.std.specs.Simd.Lanes.{chunk, put_chunk}
 use Rattle.std.proofs.Math.Nat.{mul-le-mul_left, mul-suc}
 use Rattle.std.proofs.lemmas.Simd.{length-chunk, get_or-chunk, get_or-put_chunk_below, get_or-put_chunk_at, get_or-put_chunk_above, length-put_chunk}
-use Rattle.std.proofs.lemmas.List.{ext_get_or, length-set, length-replicate, length-append, length-map, map-append, take-append-drop, length-take, length-drop, get_or-map, get_or-take, get_or-drop, get_or-reverse, length-reverse, length-take-le, get_or-replicate, get_or-set_same, get_or-set_other, take-replicate, drop-replicate, get_or_default}
-use Rattle.std.proofs.lemmas.List.FromFn.{get_or-map-range_with_len, length-map-range_with_len, fill_by_all}
-use Rattle.std.proofs.lemmas.List.Edits.{fill_by_more, map_over_more}
+use Rattle.std.proofs.lemmas.List.{ext_get_or, length-set, length-replicate, get_or-replicate, get_or-set_same, get_or-set_other, take-replicate, drop-replicate}
+use Rattle.std.proofs.lemmas.List.FromFn.{get_or-map-range_with_len, length-map-range_with_len}
 use Rattle.std.proofs.lemmas.Bool.{cases_lt, cases_eq}
-use Rattle.av_frame.proofs.Chunks.{put_chunk_none, put_chunk-chunk}
+use Rattle.av_frame.proofs.Chunks.{put_chunk_none, put_chunk-chunk, chunk-chunk}
 use Rattle.av_frame.specs.declared.geometry.Geometry.{Geometry}
-use Rattle.av_frame.specs.Rasters.{Raster, row_of, sample_of, IsRaster, blank_raster}
+use Rattle.av_frame.specs.Rasters.{Raster, row_of, sample_of, blank_raster}
 use Rattle.av_frame.specs.Geometries.{line, place, rows_at, raster_at, Fitted}
 
 pub get_or-rows_at : (g : Geometry) (bs : List ℕ) (r : ℕ) → r < g.height → get_or (rows_at g bs) r [] ≡ chunk (place g r) g.width bs
@@ -134,7 +133,6 @@ raster_blank g bs f e =
     ∙ sym (get_or-replicate g.height k (replicate {A = ℕ} g.width 0) [] less))))) in
     ap (λ (z : List (List ℕ)). record (raster_at g bs) { rows = z }) rows
 
-
 last_row_inside : (s w h : ℕ) → w ≤ s → 0 < h → s * (h - 1) + w ≤ s * h
 last_row_inside s w zero wide some = absurd (omega arith)
 last_row_inside s w (suc h) wide some =
@@ -153,16 +151,15 @@ raster_at-blank s w h bs wide narrow some low zeros =
     (record { apart = wide; some_rows = some; small = omega arith; inside = omega arith })
     (zeros ∙ ap (λ (n : ℕ). replicate n 0) (sym long))
 
--- a row that is read
-pub row_read : (g : Geometry) (bs out : List ℕ) (r p n : ℕ) (x : Raster) → raster_at g bs ≡ x → out ≡ chunk p n bs → p ≡ place g r → r < x.height → n ≡ x.width → out ≡ row_of x r
-row_read g bs out r p n x e read at less wide =
+-- a part of a row that is read
+pub part_read : (g : Geometry) (bs out : List ℕ) (r c p n : ℕ) (x : Raster) → raster_at g bs ≡ x → out ≡ chunk (p + c) n bs → p ≡ place g r → r < x.height → c + n ≤ x.width → out ≡ chunk c n (row_of x r)
+part_read g bs out r c p n x e read at less wide =
     let h : g.height ≡ x.height = ap (λ (y : Raster). y.height) e in
     let w : g.width ≡ x.width = ap (λ (y : Raster). y.width) e in
-    let n' : n ≡ g.width = omega arith in
     read
-    ∙ (ap (λ (j : ℕ). chunk j n bs) at
-    ∙ (ap (λ (m : ℕ). chunk (place g r) m bs) n'
-    ∙ (sym (get_or-rows_at g bs r (omega arith)) ∙ ap (λ (y : Raster). row_of y r) e)))
+    ∙ (ap (λ (j : ℕ). chunk (j + c) n bs) at
+    ∙ (sym (chunk-chunk (place g r) c n g.width (place g r + c) bs refl (omega arith))
+    ∙ ap (λ (z : List ℕ). chunk c n z) (sym (get_or-rows_at g bs r (omega arith)) ∙ ap (λ (y : Raster). row_of y r) e)))
 
 -- a sample that is read
 pub sample_read : (g : Geometry) (bs one : List ℕ) (r c p n : ℕ) (x : Raster) → raster_at g bs ≡ x → one ≡ chunk (p + c) n bs → n ≡ 1 → p ≡ place g r → r < x.height → c < x.width → get_or one 0 0 ≡ sample_of x r c

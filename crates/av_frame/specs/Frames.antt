@@ -1,9 +1,9 @@
 -- The value of a frame: its shape, rows of samples by plane, and its time.
-use Rattle.std.specs.Prelude.{◌≡◌, ◌<◌, ◌≤◌, ◌^◌, ℕ, ℤ, pos, neg_ℤ, ◌≤ℤ◌, List, [], map, length, slice_index_or, slice_set}
+use Rattle.std.specs.Prelude.{◌≡◌, ◌<◌, ◌^◌, ℕ, ℤ, pos, neg_ℤ, ◌≤ℤ◌, List, map, length, slice_index_or, slice_set}
 use Rattle.std.specs.List.{range_with_len}
 use Rattle.av_base.specs.declared.shapes.Shape.{Shape}
 use Rattle.av_base.specs.Shapes.{IsLawful, IsVideo, planes_of, columns_of, rows_of}
-use Rattle.av_frame.specs.Rasters.{Raster, IsRaster, row_of, blank_raster, raster_by}
+use Rattle.av_frame.specs.Rasters.{Raster, IsRaster, row_of, sample_of, blank_raster, raster_by}
 
 -- A frame that stays as it is. Its pts and duration are in ticks of the shape's time base.
 pub record FrameValue : Type 0 where
@@ -35,11 +35,12 @@ pub record ArePlanes (shape : Shape) (planes : List Raster) : Type 0 where
   pub height : (p : ℕ) → p < planes_of shape → (plane_at planes p).height ≡ rows_of shape p
   pub rows : (p : ℕ) → p < planes_of shape → IsRaster (plane_at planes p)
 
--- a picture of a lawful shape
+-- a picture of a lawful shape, of samples of eight bits
 pub record IsPicture (shape : Shape) (planes : List Raster) : Type 0 where
   pub lawful : IsLawful shape
   pub video : IsVideo shape.format
   pub sizes : ArePlanes shape planes
+  pub samples : (p r c : ℕ) → sample_of (plane_at planes p) r c < 256
 
 -- a timestamp within 2^62
 abbrev pub IsPts : ℤ → Type 0

@@ -1,3 +1,4 @@
 pub mod Rasters
 pub mod Geometries
 pub mod Frames
+pub mod Sources

@@ -47,7 +47,12 @@ impl Edit {
     ///
     /// # Errors
     /// Want of memory.
-    pub fn blank(alloc: Global, _pools: &mut Pools, shape: Shape, _samples: u32) -> Result<Edit, NoMemory>
+    pub fn blank(
+        alloc: Global,
+        _pools: &mut Pools,
+        shape: Shape,
+        _samples: u32,
+    ) -> Result<Edit, NoMemory>
         requires lawful { IsLawful shape }
         requires video { IsVideo shape.format }
         requires limits { IsWithinLimits shape }
@@ -85,7 +90,7 @@ impl Edit {
         ensures out { out.new ≡ row_of (plane_at self.old.planes plane) row }
         ensures same { self.new ≡ self.old }
     {
-        self.planes[plane as usize].row(row, out);
+        self.planes[plane as usize].part(row, 0, out);
     }
     /// Replaces one sample, by a value of 0 to 255.
     pub fn set(&mut self, plane: u32, row: u32, column: u32, value: i32)

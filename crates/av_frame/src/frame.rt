@@ -1,5 +1,6 @@
 //! Frames, which stay as they are.
-ghost use Rattle.std.specs.Prelude.{◌≡◌, ◌<◌, pos, length};
+ghost use Rattle.std.specs.Prelude.{◌≡◌, ◌+◌, ◌<◌, ◌≤◌, pos, length};
+ghost use Rattle.std.specs.Simd.Lanes.{chunk};
 ghost use Rattle.av_base.specs.Shapes.{planes_of};
 ghost use Rattle.av_frame.specs.Rasters.{row_of, sample_of};
 ghost use Rattle.av_frame.specs.Frames.{plane_at, IsFrame, IsPicture, IsPts, IsDuration};
@@ -100,7 +101,18 @@ impl Frame {
         ensures out { out.new ≡ row_of (plane_at self.old.planes plane) row }
         ensures same { self.new ≡ self.old }
     {
-        self.planes[plane as usize].row(row, out);
+        self.planes[plane as usize].part(row, 0, out);
+    }
+
+    /// Copies samples of eight bits of a row, from a column on, into all of `out`.
+    pub fn part(&mut self, plane: u32, row: u32, column: u32, out: &mut [u8])
+        requires plane { plane < planes_of self.old.shape }
+        requires row { row < (plane_at self.old.planes plane).height }
+        requires wide { column + length out.old ≤ (plane_at self.old.planes plane).width }
+        ensures out { out.new ≡ chunk column (length out.old) (row_of (plane_at self.old.planes plane) row) }
+        ensures same { self.new ≡ self.old }
+    {
+        self.planes[plane as usize].part(row, column, out);
     }
 
     /// Lets the frame go.

@@ -36,14 +36,22 @@ pub trait Kernel: Sync {
 }
 
 /// Gives every sample of a plane the kernel's value. The buffer is as long as a row.
-fn paint_plane<K: Kernel>(edit: &mut Edit, kernel: &K, sources: &mut [Frame], plane: u32, buffer: &mut [u8])
+fn paint_plane<K: Kernel>(
+    edit: &mut Edit,
+    kernel: &K,
+    sources: &mut [Frame],
+    plane: u32,
+    buffer: &mut [u8],
+)
     requires plane { plane < planes_of edit.old.shape }
     requires wide { length buffer.old ≡ columns_of edit.old.shape plane }
     requires narrow { length buffer.old < 2 ^ 32 }
     requires fits { (r c : ℕ) → r < rows_of edit.old.shape plane → c < length buffer.old → K.fits kernel.now sources.old plane r c }
     requires small { (r c : ℕ) → r < rows_of edit.old.shape plane → c < length buffer.old → K.value kernel.now sources.old plane r c < 256 }
-    ensures painted { edit.new ≡ record edit.old { planes = slice_set edit.old.planes plane
-        (raster_by (columns_of edit.old.shape plane) (rows_of edit.old.shape plane) (K.value kernel.now sources.old plane)) } }
+    ensures painted { edit.new ≡ record edit.old {
+      planes = slice_set edit.old.planes plane
+          (raster_by (columns_of edit.old.shape plane) (rows_of edit.old.shape plane) (K.value kernel.now sources.old plane));
+    } }
     ensures same { sources.new ≡ sources.old }
 {
     let (_columns, rows) = edit.shape().plane_size(plane);
@@ -63,6 +71,12 @@ pub fn paint<K: Kernel>(edit: &mut Edit, kernel: &K, sources: &mut [Frame], buff
 {
     for plane in 0..edit.shape().planes() {
         let (columns, _rows) = edit.shape().plane_size(plane);
-        paint_plane(edit, kernel, sources, plane, &mut buffer[..columns as usize]);
+        paint_plane(
+            edit,
+            kernel,
+            sources,
+            plane,
+            &mut buffer[..columns as usize],
+        );
     }
 }

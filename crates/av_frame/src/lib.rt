@@ -5,6 +5,7 @@
 #![tactic(auto)]
 
 mod edit;
+mod faults;
 mod frame;
 mod geometry;
 mod kernel;
@@ -12,5 +13,9 @@ mod page;
 mod plane;
 
 pub use edit::Edit;
+pub use faults::{HeadError, NextError, WriteError};
 pub use frame::{Frame, Pools};
 pub use kernel::{Kernel, paint};
+
+#[cfg(test)]
+mod tests;

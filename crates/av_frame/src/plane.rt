@@ -1,5 +1,6 @@
 //! Planes: rows of samples of eight bits.
 ghost use Rattle.std.specs.Prelude.{◌≡◌, ◌+◌, ◌*◌, ◌^◌, ◌<◌, ◌≤◌, length, slice_set, IfOk};
+ghost use Rattle.std.specs.Simd.Lanes.{chunk};
 ghost use Rattle.av_frame.specs.Rasters.{row_of, sample_of, blank_raster};
 
 use crate::geometry::{Geometry, place_of};
@@ -52,14 +53,14 @@ impl Plane {
         })
     }
 
-    /// Copies a row into `out`.
-    pub fn row(&mut self, row: u32, out: &mut [u8])
+    /// Copies samples of a row, from a column on, into all of `out`.
+    pub fn part(&mut self, row: u32, column: u32, out: &mut [u8])
         requires row { row < self.old.height }
-        requires wide { length out.old ≡ self.old.width }
-        ensures out { out.new ≡ row_of self.old row }
+        requires wide { column + length out.old ≤ self.old.width }
+        ensures out { out.new ≡ chunk column (length out.old) (row_of self.old row) }
         ensures same { self.new ≡ self.old }
     {
-        let at = place_of(self.geometry, row);
+        let at = place_of(self.geometry, row) + column as usize;
         self.page.read(at, out);
     }
 

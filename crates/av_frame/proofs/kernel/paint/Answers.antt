@@ -4,6 +4,6 @@ use Rattle.av_frame.proofs.PaintLemmas.{HasPlanes-all}
 use Rattle.av_frame.proofs.kernel.paint.Goals as goal
 
 pub returns-clause-painted : goal.returns-clause-painted
-returns-clause-painted g c = 
+returns-clause-painted g c =
     let planes = ap planes_of c.shape.ensures.shape in
     HasPlanes-all c.loop-plane.invariant.painted (omega arith)

@@ -1,4 +1,4 @@
-use Rattle.std.proofs.Common.{◌≡◌, ◌≤◌, ◌^◌, ◌*◌, arith}
+use Rattle.std.proofs.Common.{◌*◌, arith}
 use Rattle.av_frame.proofs.RowLemmas.{raster_at-blank}
 use Rattle.av_frame.proofs.plane.Plane.blank.Goals as goal
 

@@ -1,0 +1,44 @@
+//! What a reader or a writer of a file answers where it cannot go on.
+
+/// Why a header was refused.
+#[derive(Clone, Copy, Debug, PartialEq, Eq)]
+pub enum HeadError {
+    /// The input begins with no header of the form.
+    BadHeader,
+    /// The header isn't whole within the limit of bytes.
+    TooLong,
+    /// The host failed, and its count of reads rose in this call.
+    Host,
+    /// Want of memory.
+    NoMemory,
+}
+
+/// Why the next frame was refused.
+#[derive(Clone, Copy, Debug, PartialEq, Eq)]
+pub enum NextError {
+    /// What stands after so many whole frames is no frame, whatever follows.
+    BadFrame {
+        /// The number of whole frames before it.
+        frame: u64,
+    },
+    /// The input ends within a frame.
+    Truncated {
+        /// The number of whole frames before it.
+        place: u64,
+    },
+    /// The input goes on past the limit of bytes, and no frame is whole within it.
+    TooLong,
+    /// The host failed, and its count of reads rose in this call.
+    Host,
+    /// Want of memory.
+    NoMemory,
+}
+
+/// Why a text wasn't written to its end.
+#[derive(Clone, Copy, Debug, PartialEq, Eq)]
+pub enum WriteError {
+    /// The host failed, and its count of writes rose in this call.
+    Host,
+    /// Want of memory.
+    NoMemory,
+}

@@ -1,0 +1,15 @@
+//! The outside: named inputs and outputs, and a place to say things.
+#![tactic(auto)]
+
+mod host;
+mod memory;
+mod memory_calls;
+mod parts;
+mod real;
+
+pub use host::{Failed, Host, HostError};
+pub use parts::MemoryHost;
+pub use real::RealHost;
+
+#[cfg(test)]
+mod tests;

@@ -1,0 +1,64 @@
+//! What a host keeps.
+ghost use Rattle.std.specs.Prelude.{◌<◌, ◌≤◌, length, vec_capacity};
+ghost use Rattle.av_host.specs.declared.parts.TheConstants.{SAID_ROOM};
+
+use std::alloc::Global;
+
+/// How many bytes a host in memory has room to say.
+pub(crate) const SAID_ROOM: usize = 65536;
+
+#[derive(Drop)]
+pub struct NamedBytes {
+    pub(crate) name: String,
+    pub(crate) bytes: Vec<u8>,
+}
+
+/// An open input, and how much of it was read.
+#[derive(Drop)]
+pub struct Source {
+    pub(crate) bytes: Vec<u8>,
+    pub(crate) at: usize,
+    ghost within: { at ≤ length bytes.items },
+}
+
+/// What was said. All its room is there from the start, so that saying takes no memory.
+#[derive(Drop)]
+pub struct Said {
+    pub(crate) bytes: Vec<u8>,
+    ghost reserved: { SAID_ROOM ≤ vec_capacity bytes },
+    ghost within: { length bytes.items ≤ SAID_ROOM },
+}
+
+/// How often the outside has failed, by the kind of the call.
+#[derive(Drop)]
+pub struct Counts {
+    pub(crate) openings: u64,
+    pub(crate) reads: u64,
+    pub(crate) writes: u64,
+    pub(crate) sayings: u64,
+}
+
+/// How many calls were made, and which calls fail.
+#[derive(Drop)]
+pub struct CallPlan {
+    pub(crate) made: u64,
+    pub(crate) failing: Vec<u64>,
+}
+
+/// A host in memory, which tells everything. It can be set to fail at chosen calls, and to give
+/// little at each read.
+///
+/// It fails exactly at the calls that `fail_call` named, at an `open_input` of a name that was not
+/// added, and at a `say` that finds no room.
+#[derive(Drop)]
+pub struct MemoryHost {
+    pub(crate) alloc: Global,
+    pub(crate) files: Vec<NamedBytes>,
+    pub(crate) sources: Vec<Source>,
+    pub(crate) made: Vec<NamedBytes>,
+    pub(crate) said: Said,
+    pub(crate) counts: Counts,
+    pub(crate) plan: CallPlan,
+    pub(crate) read_bound: usize,
+    ghost gives: { 0 < read_bound },
+}

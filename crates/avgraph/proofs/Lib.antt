@@ -1,0 +1,12 @@
+mod Pieces
+mod FlipLemmas
+mod RowLemmas
+mod FrameLemmas
+mod ReadLemmas
+mod WriteLemmas
+mod NumeralLemmas
+mod HeaderLemmas
+mod LineLemmas
+mod RunLemmas
+mod CommandLemmas
+mod HeadlineLemmas

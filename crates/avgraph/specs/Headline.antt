@@ -1,0 +1,82 @@
+-- The command from its words to its status.
+use Rattle.std.specs.Prelude.{◌≡◌, ◌≢◌, ◌⊎◌, ◌<◌, ◌-◌, ◌^◌, ◌++◌, ℕ, List, take, Option, Some, None, Result, Ok, Err}
+use Rattle.std.specs.Option.{ForSome}
+use Rattle.av_host.specs.World.{World, Faults}
+use Rattle.av_host.specs.Calls.{Says, Rises}
+use Rattle.avgraph.specs.HostRuns.{SaysPart}
+use Rattle.avgraph.specs.declared.fault.Fault.TheVariants.{NotYet}
+use Rattle.avgraph.specs.declared.fault.Stop.{Stop}
+use Rattle.avgraph.specs.declared.fault.Stop.TheVariants as stop
+use Rattle.avgraph.specs.Words.{words_of}
+use Rattle.avgraph.specs.Faults.{CountsStop, stop_status, stop_line}
+use Rattle.avgraph.specs.Answers.{Answers, IsNotYet}
+use Rattle.avgraph.specs.Commands.{Commands, KeepsInputs, IsReadToEnd, IsBegun}
+
+-- A beginning of the line was said, and all of it where no saying failed. Nothing else was asked of the host.
+pub record Prints (old new : World) (line : List ℕ) : Type 0 where
+  pub part : SaysPart old new line
+  pub whole : old.faults.sayings < 2 ^ 64 - 1 → new.faults.sayings ≡ old.faults.sayings → Says old new line
+  pub openings : new.faults.openings ≡ old.faults.openings
+  pub reads : new.faults.reads ≡ old.faults.reads
+  pub writes : new.faults.writes ≡ old.faults.writes
+
+-- nothing is said of a command that was done, and the line of any other
+abbrev pub Reports : World → World → Result (Unit {0}) Stop → ℕ → Type 0
+Reports old new (Ok done) status = (status ≡ 0) × (new ≡ old)
+Reports old new (Err stops) status = (status ≡ stop_status stops) × Prints old new (stop_line stops)
+
+-- what the words do, up to the printing
+abbrev pub Obeys : ℕ → Option (List ℕ × List ℕ) → World → World → Result (Unit {0}) Stop → Type 0
+Obeys limit None old new outcome = (outcome ≡ Err (stop.Fault NotYet)) × (new ≡ old)
+Obeys limit (Some names) old new outcome = Commands limit old new names.0 names.1 outcome × CountsStop outcome old.faults new.faults
+
+-- the files first, and then the printing
+pub record Acts (limit : ℕ) (words : List (List ℕ)) (old new : World) (status : ℕ) : Type 0 where
+  pub outcome : Result (Unit {0}) Stop
+  pub between : World
+  pub obeys : Obeys limit (words_of words) old between outcome
+  pub reports : Reports between new outcome status
+
+-- A status of 11, 12 or 13 comes exactly where its count rose, so that no run raises two of them.
+pub record HasCause (old new : Faults) (status : ℕ) : Type 0 where
+  pub opening : status ≡ 11 → Rises old.openings new.openings
+  pub reading : status ≡ 12 → Rises old.reads new.reads
+  pub writing : status ≡ 13 → Rises old.writes new.writes
+  pub opening_forces : old.openings < new.openings → status ≡ 11
+  pub reading_forces : old.reads < new.reads → status ≡ 12
+  pub writing_forces : old.writes < new.writes → status ≡ 13
+
+-- No call but sayings failed.
+pub record IsQuiet (old new : Faults) : Type 0 where
+  pub openings : (new.openings ≡ old.openings) × (new.openings < 2 ^ 64 - 1)
+  pub reads : (new.reads ≡ old.reads) × (new.reads < 2 ^ 64 - 1)
+  pub writes : (new.writes ≡ old.writes) × (new.writes < 2 ^ 64 - 1)
+
+-- The output holds the whole answer, and nothing is left of the input.
+pub record Done (limit : ℕ) (old new : World) (output : List ℕ) (bytes : List ℕ) : Type 0 where
+  pub out : List ℕ
+  pub answers : Answers limit bytes out
+  pub content : ForSome (old.outputs.content output) (λ _. new.outputs.content output ≡ Some (Some out))
+  pub to_end : IsReadToEnd old new
+
+-- With no failed call the status is that of the answer, or want of memory.
+pub record Completes (limit status : ℕ) (bytes : List ℕ) : Type 0 where
+  pub answered : (out : List ℕ) → Answers limit bytes out → (status ≡ 0) ⊎ (status ≡ 14)
+  pub not_yet : IsNotYet limit bytes → (status ≡ 15) ⊎ (status ≡ 14)
+
+-- Nothing of the files changed but, it may be, the output, which holds a beginning of the answer.
+pub record Keeps (old new : World) (input output : List ℕ) : Type 0 where
+  pub held : new.held ≡ old.held
+  pub inputs : KeepsInputs old.inputs new.inputs
+  pub other_outputs : (other : List ℕ) → other ≢ output → new.outputs.content other ≡ old.outputs.content other
+  pub content : (new.outputs.content output ≡ old.outputs.content output)
+      ⊎ ForSome (old.outputs.content output) (λ _. ForSome (old.held input) (λ bytes. (put : List ℕ) × IsBegun bytes put × (new.outputs.content output ≡ Some (Some put))))
+
+-- A beginning of the line was said, and all of it where no saying failed.
+pub record SaysLine (old new : World) (line : List ℕ) : Type 0 where
+  pub part : ForSome old.said (λ said. (n : ℕ) × (new.said ≡ Some (said ++ take n line)))
+  pub whole : old.faults.sayings < 2 ^ 64 - 1 → new.faults.sayings ≡ old.faults.sayings → ForSome old.said (λ said. new.said ≡ Some (said ++ line))
+
+-- the line of the stop that has this status
+abbrev pub SaysStatus : World → World → ℕ → Type 0
+SaysStatus old new status = (stops : Stop) × (status ≡ stop_status stops) × SaysLine old new (stop_line stops)

@@ -1,0 +1,14 @@
+pub mod HostRuns
+pub mod FrameTexts
+pub mod HeaderTexts
+pub mod Numerals
+pub mod Reading
+pub mod Pieces
+pub mod Writing
+pub mod Flips
+pub mod Faults
+pub mod Words
+pub mod Running
+pub mod Answers
+pub mod Commands
+pub mod Headline

@@ -1,0 +1,23 @@
+//! The command: from words and files to files.
+#![tactic(auto)]
+
+mod command;
+mod fault;
+pub mod flip;
+mod form;
+mod header;
+mod host_runs;
+pub mod reader;
+mod rows;
+mod run;
+mod stages;
+mod top;
+mod words;
+pub mod writer;
+
+pub use fault::{Fault, Stop};
+pub use stages::{Progress, Stage};
+pub use top::{Gate, OpenGate, avgraph};
+
+/// The greatest number of bytes of an input.
+pub const LIMIT: u64 = 1 << 40;

@@ -1,0 +1,53 @@
+//! The words of the command.
+ghost use Rattle.std.specs.Prelude.{◌≡◌, map, option_map, string_bytes};
+ghost use Rattle.avgraph.specs.Words.{is_y4m, is_option, names_command, words_of};
+
+/// Whether the name ends in `.y4m`, in letters of either case.
+fn is_y4m(name: &str) -> bool
+    ensures { result ≡ is_y4m name.now }
+{
+    let bytes = name.as_bytes();
+    let ending = &bytes[bytes.len().saturating_sub(4)..];
+    ending.eq_ignore_ascii_case(b".y4m")
+}
+
+/// Whether the word begins as an option does.
+fn is_option(word: &str) -> bool
+    ensures { result ≡ is_option word.now }
+{
+    matches!(word.as_bytes(), [b'-', ..])
+}
+
+/// Whether the five words name a flip of one file into another.
+fn is_command(flag: &str, input: &str, graph: &str, text: &str, output: &str) -> bool
+    ensures { result ≡ names_command flag.now input.now graph.now text.now output.now }
+{
+    flag == "-i"
+        && is_y4m(input)
+        && graph == "-filter_complex"
+        && text == "hflip"
+        && is_y4m(output)
+        && !is_option(output)
+        && input != output
+}
+
+/// The names of the input and of the output, where the words name a command that runs today.
+pub(crate) fn read_words(words: &[String]) -> Option<(&str, &str)>
+    ensures { option_map (λ p. (p.0.now, p.1.now)) result ≡ words_of (map string_bytes words.now) }
+{
+    if words.len() != 5 {
+        return None;
+    }
+    let input = words[1].as_str();
+    let output = words[4].as_str();
+    if is_command(
+        words[0].as_str(),
+        input,
+        words[2].as_str(),
+        words[3].as_str(),
+        output,
+    ) {
+        return Some((input, output));
+    }
+    None
+}
