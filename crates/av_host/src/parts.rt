@@ -7,6 +7,7 @@ use std::alloc::Global;
 /// How many bytes a host in memory has room to say.
 pub(crate) const SAID_ROOM: usize = 65536;
 
+/// A name and the bytes that it has.
 #[derive(Drop)]
 pub struct NamedBytes {
     pub(crate) name: String,

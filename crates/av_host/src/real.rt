@@ -12,6 +12,7 @@ use std::fs;
 use std::io::{self, Read, Seek, SeekFrom, Write};
 use std::rt::Files;
 
+/// A file that was created, and its name.
 #[derive(Drop)]
 pub struct NamedFile<F> {
     pub(crate) name: String,

@@ -65,7 +65,7 @@ length-rows w (x ∷ xs) each =
     let both = length-append x (concat xs) in
     omega arith
 
-length-raster : (x : Raster) → IsRaster x → length (concat x.rows) ≡ x.width * x.height
+pub length-raster : (x : Raster) → IsRaster x → length (concat x.rows) ≡ x.width * x.height
 length-raster x is =
     length-rows x.width x.rows (λ r h. is.row_long r (let e = is.rows_long in omega arith)) ∙ ap (λ n. x.width * n) is.rows_long
 

@@ -10,3 +10,4 @@ mod LineLemmas
 mod RunLemmas
 mod CommandLemmas
 mod HeadlineLemmas
+mod LawLemmas

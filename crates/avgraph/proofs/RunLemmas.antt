@@ -41,14 +41,14 @@ AreFramesFrom-push shape k [] f are is = (subst (λ (n : ℕ). IsFrameAt shape n
 AreFramesFrom-push shape k (x ∷ xs) f are is =
     (are.0, AreFramesFrom-push shape (k + 1) xs f are.1 (subst (λ (n : ℕ). IsFrameAt shape n f) (let e : k + length (x ∷ xs) ≡ (k + 1) + length xs = omega arith in e) is))
 
-length-frame_at : (shape : Shape) (k : ℕ) (f : FrameValue) → IsFrameAt shape k f → length (frame_text f.planes) ≡ frame_size shape
+pub length-frame_at : (shape : Shape) (k : ℕ) (f : FrameValue) → IsFrameAt shape k f → length (frame_text f.planes) ≡ frame_size shape
 length-frame_at shape k f is = length-frame shape f.planes (subst (λ (s : Shape). ArePlanes s f.planes) is.shape_is is.is_frame.picture.sizes)
 
-some_frame : (shape : Shape) (k : ℕ) (f : FrameValue) → IsFrameAt shape k f → 0 < length (frame_text f.planes)
+pub some_frame : (shape : Shape) (k : ℕ) (f : FrameValue) → IsFrameAt shape k f → 0 < length (frame_text f.planes)
 some_frame shape k f is = let e = length-frame_at shape k f is in omega arith
 
 -- two texts of equal beginnings' lengths
-split_same : (vs bs xs ys : List ℕ) → vs ++ xs ≡ bs ++ ys → length vs ≡ length bs → xs ≡ ys
+pub split_same : (vs bs xs ys : List ℕ) → vs ++ xs ≡ bs ++ ys → length vs ≡ length bs → xs ≡ ys
 split_same [] [] xs ys e n = e
 split_same [] (b ∷ bs) xs ys e n = absurd (omega arith)
 split_same (v ∷ vs) [] xs ys e n = absurd (omega arith)

@@ -7,6 +7,7 @@ pub mod flip;
 mod form;
 mod header;
 mod host_runs;
+pub mod law;
 pub mod reader;
 mod rows;
 mod run;
@@ -18,6 +19,9 @@ pub mod writer;
 pub use fault::{Fault, Stop};
 pub use stages::{Progress, Stage};
 pub use top::{Gate, OpenGate, avgraph};
+
+#[cfg(test)]
+mod tests;
 
 /// The greatest number of bytes of an input.
 pub const LIMIT: u64 = 1 << 40;
