@@ -128,7 +128,7 @@ header_here a h =
     let same = numbers_unique a (header_numbers h) in
     rw (same.0, same.1, same.2, same.3) (h.numbers, h.is_rate)
 
-some_factor : (x y n : ℕ) → x * y ≡ n → 0 < n → 0 < x
+pub some_factor : (x y n : ℕ) → x * y ≡ n → 0 < n → 0 < x
 some_factor zero y n e some = absurd (omega arith)
 some_factor (suc x) y n e some = omega arith
 

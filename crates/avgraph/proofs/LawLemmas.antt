@@ -84,7 +84,7 @@ same_frame shape k x y a b e =
     ∙ (ap (λ (t : ℤ). record { shape = y.shape; planes = y.planes; pts = t; duration = x.duration }) (a.pts ∙ sym b.pts)
     ∙ ap (λ (t : ℤ). record { shape = y.shape; planes = y.planes; pts = y.pts; duration = t }) (a.duration ∙ sym b.duration)))
 
-same_frames : (shape : Shape) (k : ℕ) (xs ys : List FrameValue) → AreFramesFrom shape k xs → AreFramesFrom shape k ys → frames_text xs ≡ frames_text ys → xs ≡ ys
+pub same_frames : (shape : Shape) (k : ℕ) (xs ys : List FrameValue) → AreFramesFrom shape k xs → AreFramesFrom shape k ys → frames_text xs ≡ frames_text ys → xs ≡ ys
 same_frames shape k [] [] a b e = refl
 same_frames shape k [] (y ∷ ys) a b e = absurd (let some = some_frame shape k y b.0 in let n = ap length e in let m = length-append (frame_text y.planes) (frames_text ys) in omega arith)
 same_frames shape k (x ∷ xs) [] a b e = absurd (let some = some_frame shape k x a.0 in let n = ap length e in let m = length-append (frame_text x.planes) (frames_text xs) in omega arith)

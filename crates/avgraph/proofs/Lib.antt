@@ -11,3 +11,4 @@ mod RunLemmas
 mod CommandLemmas
 mod HeadlineLemmas
 mod LawLemmas
+mod WrittenLemmas
