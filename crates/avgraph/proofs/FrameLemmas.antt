@@ -91,7 +91,7 @@ length-planes shape planes are (suc p) below =
     let both = ap length step ∙ length-append (picture_text (take p planes)) (concat (plane_at planes p).rows) in
     omega arith
 
-length-picture : (shape : Shape) (planes : List Raster) → ArePlanes shape planes → length (picture_text planes) ≡ bytes_of shape
+pub length-picture : (shape : Shape) (planes : List Raster) → ArePlanes shape planes → length (picture_text planes) ≡ bytes_of shape
 length-picture shape planes are =
     ap (λ zs. length (picture_text zs)) (sym (take_all (planes_of shape) planes (let count = are.count in omega arith)))
     ∙ (length-planes shape planes are (planes_of shape) (omega arith) ∙ area_before_all shape)
@@ -160,19 +160,24 @@ ArePlanes-cut shape bytes long = record {
 
 -- ---- texts that can go on to be a frame
 
+-- the picture whose samples are these bytes
+pub picture_of : (shape : Shape) (body : List ℕ) → length body ≡ bytes_of shape → (planes : List Raster) × ArePlanes shape planes × (picture_text planes ≡ body)
+picture_of shape body long = (
+  cut_planes shape body (planes_of shape),
+  ArePlanes-cut shape body long,
+  picture_text-cut shape body (planes_of shape) ∙ take_all (area_before shape (planes_of shape)) body (let all = area_before_all shape in omega arith),
+)
+
 -- a text that goes on to be the first line and a picture's bytes
 can_begin : (shape : Shape) (text more body : List ℕ) → length body ≡ bytes_of shape → text ++ more ≡ frame_mark ++ body → CanBeginFrame shape text
 can_begin shape text more body long e =
-    let planes = cut_planes shape body (planes_of shape) in
-    let picture : picture_text planes ≡ body =
-    picture_text-cut shape body (planes_of shape)
-    ∙ take_all (area_before shape (planes_of shape)) body (let all = area_before_all shape in omega arith) in (
+    let picture = picture_of shape body long in (
       more,
       record {
-        planes = planes;
+        planes = picture.0;
         rest = [];
-        are_planes = ArePlanes-cut shape body long;
-        text_is = e ∙ (ap (λ zs. frame_mark ++ zs) (sym picture) ∙ sym (append-nil (frame_text planes)));
+        are_planes = picture.1;
+        text_is = e ∙ (ap (λ zs. frame_mark ++ zs) (sym picture.2) ∙ sym (append-nil (frame_text picture.0)));
       },
     )
 

@@ -12,3 +12,4 @@ mod CommandLemmas
 mod HeadlineLemmas
 mod LawLemmas
 mod WrittenLemmas
+mod SlowLemmas

@@ -1,5 +1,5 @@
 -- Rows of a plane that are written or read one after another.
-use Rattle.std.proofs.Common.{◌≡◌, ℕ, ◌+◌, ◌-◌, ◌*◌, ◌<◌, ◌≤◌, List, [], ◌∷◌, ◌++◌, length, take, drop, get_or, set, ap, sym, ◌∙◌, subst, arith, refl, append_assoc, add_assoc, ⊎_elim}
+use Rattle.std.proofs.Common.{◌≡◌, ◌==◌, ℕ, zero, suc, false, ◌+◌, ◌-◌, ◌*◌, ◌<◌, ◌≤◌, List, [], ◌∷◌, ◌++◌, length, take, drop, get_or, set, ap, sym, ◌∙◌, subst, arith, refl, append_assoc, add_assoc, ⊎_elim}
 use Rattle.std.specs.List.{concat}
 use Rattle.std.proofs.lemmas.List.{get_or-set_same, set-get_or, set-set, get_or_default, take_more, take_more_set, append-nil, length-take-le, length-take, length-drop, get_or-drop, get_or-take, get_or_past}
 use Rattle.std.proofs.lemmas.Bool.{cases_lt}
@@ -14,6 +14,11 @@ use Rattle.av_base.specs.Shapes.{planes_of, columns_of, rows_of}
 use Rattle.av_frame.specs.Rasters.{Raster, blank_raster}
 use Rattle.av_frame.specs.Frames.{EditValue, plane_at, with_row, IsPicture}
 use Rattle.av_frame.proofs.PictureLemmas.{IsPicture-row}
+
+-- what isn't empty has a length
+pub some_from_test : (n : ℕ) → false ≡ (n == 0) → 0 < n
+some_from_test zero e = cc
+some_from_test (suc n) e = omega arith
 
 -- the bytes of i rows and of one more
 pub next_row : (i w : ℕ) → (i + 1) * w ≡ i * w + w

@@ -12,3 +12,4 @@ pub mod Running
 pub mod Answers
 pub mod Commands
 pub mod Headline
+pub mod Pictures

@@ -68,7 +68,7 @@ struct Numbers {
 }
 
 /// What follows the prefix in a text that begins with it.
-fn after<'a>(text: &'a [u8], prefix: &[u8]) -> Option<&'a [u8]>
+pub(crate) fn after<'a>(text: &'a [u8], prefix: &[u8]) -> Option<&'a [u8]>
     ensures found { IfSome result (λ rest. text.now ≡ prefix.now ++ rest.now) }
     ensures none { IsNone result → (rest : List ℕ) → text.now ≡ prefix.now ++ rest → ⊥ }
 {

@@ -21,6 +21,8 @@ pub use stages::{Progress, Stage};
 pub use top::{Gate, OpenGate, avgraph};
 
 #[cfg(test)]
+mod slow_reader;
+#[cfg(test)]
 mod tests;
 
 /// The greatest number of bytes of an input.

@@ -13,11 +13,11 @@ const FILE: &[u8] =
 const FLIPPED: &[u8] =
     b"YUV4MPEG2 W4 H2 F25:1 Ip A0:0 C420jpeg\nFRAME\n\x04\x03\x02\x01\x08\x07\x06\x05\x0a\x09\x0c\x0b";
 /// The lengths of their header lines, and of each frame.
-const HEADER: usize = 27;
+pub(crate) const HEADER: usize = 27;
 
-const FLIPPED_HEADER: usize = 39;
+pub(crate) const FLIPPED_HEADER: usize = 39;
 
-const FRAME: usize = 18;
+pub(crate) const FRAME: usize = 18;
 
 fn words(alloc: Global, names: &[&str]) -> Result<Vec<String>, AllocError> {
     let mut words = Vec::new(alloc);
@@ -28,12 +28,12 @@ fn words(alloc: Global, names: &[&str]) -> Result<Vec<String>, AllocError> {
 }
 
 /// The words of a flip of `a.y4m` into `b.y4m`.
-fn flip(alloc: Global) -> Result<Vec<String>, AllocError> {
+pub(crate) fn flip(alloc: Global) -> Result<Vec<String>, AllocError> {
     words(alloc, &["-i", "a.y4m", "-filter_complex", "hflip", "b.y4m"])
 }
 
 /// A host that holds these bytes as `a.y4m`.
-fn host_with(rt: &impl Abort, alloc: Global, bytes: &[u8]) -> MemoryHost {
+pub(crate) fn host_with(rt: &impl Abort, alloc: Global, bytes: &[u8]) -> MemoryHost {
     let mut host = MemoryHost::new(alloc).ok().expect(rt, "a host");
     host.add(alloc, "a.y4m", bytes).ok().expect(rt, "an input");
     host

@@ -1,4 +1,4 @@
-use Rattle.std.proofs.Common.{◌≡◌, ◌==◌, ◌<◌, ◌≤◌, ◌-◌, ℕ, zero, suc, false, List, length, get_or, reverse, ap, ◌∙◌, arith}
+use Rattle.std.proofs.Common.{◌≡◌, ◌<◌, ◌≤◌, ◌-◌, ℕ, List, length, get_or, reverse, ap, ◌∙◌, arith}
 use Rattle.std.specs.Simd.Lanes.{chunk}
 use Rattle.std.proofs.lemmas.List.{get_or_default}
 use Rattle.av_base.specs.declared.shapes.Shape.{Shape}
@@ -7,11 +7,8 @@ use Rattle.av_frame.specs.Rasters.{row_of}
 use Rattle.av_frame.specs.Frames.{FrameValue, IsFrame, plane_at}
 use Rattle.av_frame.specs.Sources.{source_at, no_frame}
 use Rattle.avgraph.proofs.FlipLemmas.{get_or-turned_end}
+use Rattle.avgraph.proofs.RowLemmas.{some_from_test}
 use Rattle.avgraph.proofs.flip.HflipKernel.row.Goals as goal
-
-some_from_test : (n : ℕ) → false ≡ (n == 0) → 0 < n
-some_from_test zero e = cc
-some_from_test (suc n) e = omega arith
 
 -- what holds of the part of the row that is asked for
 record Asked (sources : List FrameValue) (x : FrameValue) (plane row n : ℕ) : Type 0 where
