@@ -4,6 +4,7 @@ ghost use Rattle.av_host.specs.Memory.{memory_world};
 
 use crate::{Failed, Host, HostError, MemoryHost, RealHost};
 use std::alloc::Global;
+use std::fs;
 use std::process::Abort;
 use std::test::Fail;
 
@@ -193,5 +194,6 @@ fn real_files_are_written_patched_and_read_back(rt: HostRuntime) -> Result<(), F
     assert_eq!(rt; pieces.counts.as_slice(), [3, 0, 0, 0, 0, 0].as_slice());
     assert_eq!(rt; pieces.bytes.as_slice(), b"aXc".as_slice());
     assert_eq!(rt; host.say(b"said\n"), Ok(5));
+    fs::remove_file(&rt, "file")?;
     Ok(())
 }
