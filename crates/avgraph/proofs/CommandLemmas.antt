@@ -80,7 +80,7 @@ pub heading_refused : (limit : ℕ) (a b c : World) (name : List ℕ) (reader af
 heading_refused limit a b c name reader after head.BadHeader o e h =
     (LeavesAll-reads o h.reads.1, λ x held. subst (λ (n : ℕ). ¬ BeginsHeader (take n x)) e (h.cause x (o.inputs.rest.here ∙ held)))
 heading_refused limit a b c name reader after head.TooLong o e h =
-    (LeavesAll-reads o h.reads.1, λ x held. subst (λ (n : ℕ). ¬ BeginsHeader (take n x)) e (h.cause x (o.inputs.rest.here ∙ held)).1)
+    (LeavesAll-reads o h.reads.1, λ x held. subst (λ (n : ℕ). ¬ BeginsHeader (take n x)) e (h.cause x (o.inputs.rest.here ∙ held)).2)
 heading_refused limit a b c name reader after head.Host o e h = LeavesAll-reads o h.reads.1
 heading_refused limit a b c name reader after head.NoMemory o e h = subst (λ (w : World). LeavesAll a w) (sym h.0) (LeavesAll-opens o)
 

@@ -104,9 +104,10 @@ long_unended {w0} {w1} {id} {room} {front} p long h none = (
 
 -- the limit comes before a line feed, and a byte follows it
 pub past_limit : {w0 w1 w2 : World} {id room : ℕ} {front : List ℕ} {byte : ℕ} → Reads w0 w1 id front → Reads w1 w2 id (byte ∷ []) → length front ≡ room
-    → ¬ Contains front 10 → ReadsSome w0 w2 id × ForSome (w0.inputs.left id) (λ left. (room < length left) × ¬ BeginsLine (take room left))
-past_limit {w0} {w1} {w2} {id} {room} {front} {byte} p q full none = (
+    → room < 1024 → ¬ Contains front 10 → ReadsSome w0 w2 id × (room < 1024) × ForSome (w0.inputs.left id) (λ left. (room < length left) × ¬ BeginsLine (take room left))
+past_limit {w0} {w1} {w2} {id} {room} {front} {byte} p q full small none = (
   (front ++ byte ∷ [], Reads-append p q),
+  small,
   λ left told.
       let rest = drop (length front) left in
       let all = p.inputs.begins left told in

@@ -38,7 +38,7 @@ GivesLine old new id room buffer (Whole n) =
 GivesLine old new id room buffer Unended =
     ReadsSome old new id × ForSome (old.inputs.left id) (λ left. ¬ BeginsLine (take room left))
 GivesLine old new id room buffer PastLimit =
-    ReadsSome old new id × ForSome (old.inputs.left id) (λ left. (room < length left) × ¬ BeginsLine (take room left))
+    ReadsSome old new id × (room < 1024) × ForSome (old.inputs.left id) (λ left. (room < length left) × ¬ BeginsLine (take room left))
 
 -- Only the plane changed, and all its rows were read.
 pub record ReadsWholePlane (old new : World) (id plane : ℕ) (before after : EditValue) : Type 0 where

@@ -61,9 +61,9 @@ pub record Refuses (old new : World) (reader after : Reading) (Cause : List ℕ 
 abbrev pub IsBadHeader : ℕ → List ℕ → Type 0
 IsBadHeader room left = ¬ BeginsHeader (take room left)
 
--- nor does the input end within the limit
+-- nor does the input end within the limit, which is less than a header line may have
 abbrev pub IsHeaderTooLong : ℕ → List ℕ → Type 0
-IsHeaderTooLong room left = (room < length left) × ¬ BeginsHeader (take room left)
+IsHeaderTooLong room left = (room < 1024) × (room < length left) × ¬ BeginsHeader (take room left)
 
 abbrev pub Heads : World → World → Reading → Reading → Result Shape HeadError → Type 0
 Heads old new reader after (Ok shape) = GivesHeader old new reader after shape

@@ -325,7 +325,7 @@ impl Reader {
     ///
     /// # Errors
     /// `BadHeader` where no header line of the form stands within the limit, `TooLong` where the line isn't over within
-    /// it and more bytes follow, and `Host` exactly where the host's count of reads rose. The reader is spent then.
+    /// a limit of less than 1,024 bytes and more bytes follow, and `Host` exactly where the host's count of reads rose. The reader is spent then.
     pub fn header<H: Host>(&mut self, _alloc: Global, host: &mut H) -> Result<Shape, HeadError>
         requires id { IsTrue ((H.world host.old).inputs.is_open self.old.id) }
         requires fresh { self.old.stage ≡ Stage.Fresh }

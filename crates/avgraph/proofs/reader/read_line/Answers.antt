@@ -46,4 +46,4 @@ returns-in-Some-2-clause-line g c =
     let inv = c.loop-n.invariant in
     let read = rw c.in-Some-2.is at now.read in
     let full = length-take-le c.loop-n.n c.loop-n.buffer (omega arith) in
-    past_limit inv.0 read (omega arith) inv.1
+    past_limit inv.0 read (omega arith) (omega arith) inv.1

@@ -12,7 +12,7 @@ returns-in-Ok-Unended-clause-heads g c =
 pub returns-in-Ok-PastLimit-clause-heads : goal.returns-in-Ok-PastLimit-clause-heads
 returns-in-Ok-PastLimit-clause-heads g c =
     let line = rw c.in-Ok-PastLimit.field-0-is at c.in-Ok-PastLimit.ensures.line in
-    rw (← c.self.view_is) (record { reads = line.0; after_is = refl; cause = λ left told. let past = line.1 left told in (past.0, no_header_begins past.1) })
+    rw (← c.self.view_is) (record { reads = line.0; after_is = refl; cause = λ left told. let past = line.2 left told in (line.1, past.0, no_header_begins past.1) })
 
 pub invariant_of-self-in-Some : goal.invariant_of-self-in-Some
 invariant_of-self-in-Some g c =
