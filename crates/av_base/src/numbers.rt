@@ -23,10 +23,10 @@ pub struct TimeBase {
 }
 
 /// The greatest part of a ratio.
-const PART_MAX: u64 = 0x7fff_ffff;
+const PART_MAX: u128 = 0x7fff_ffff;
 
 /// The greatest common divisor, by Euclid's steps.
-fn greatest_divisor(a: u64, b: u64) -> u64
+fn greatest_divisor(a: u128, b: u128) -> u128
     requires { 0 < b }
     ensures greatest { IsGcd a b result }
     ensures some { 0 < result }
@@ -42,7 +42,7 @@ fn greatest_divisor(a: u64, b: u64) -> u64
 }
 
 /// The ratio of two whole numbers, or none where a part of it in lowest terms passes 2^31 - 1.
-pub fn reduce(num: u64, den: u64) -> Option<Ratio>
+pub fn reduce(num: u128, den: u128) -> Option<Ratio>
     requires { 0 < den }
     ensures ratio { IfSome result (IsReduced num den) }
     ensures none { IsNone result → (r : Ratio) → IsReduced num den r → ⊥ }

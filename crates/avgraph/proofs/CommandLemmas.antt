@@ -1,5 +1,5 @@
 -- The command: an input is opened, an output created, and the loop runs.
-use Rattle.std.proofs.Common.{◌≡◌, ◌≢◌, true, false, ℕ, ◌+◌, ◌-◌, List, [], ◌++◌, take, drop, map, length, Some, Ok, Err, Option, Result, Bool, refl, ◌∙◌, ap, sym, subst, arith, inl, inr, length-append, append_assoc}
+use Rattle.std.proofs.Common.{◌≡◌, ◌≢◌, true, false, ℕ, ◌+◌, ◌-◌, List, [], ◌++◌, take, drop, length, Some, Ok, Err, Option, Result, Bool, refl, ◌∙◌, ap, sym, subst, arith, inl, inr, length-append, append_assoc}
 use Rattle.std.specs.Option.{ForSome}
 use Rattle.std.proofs.lemmas.List.{append-nil, drop_all, take_all, append_cancel_left}
 use Rattle.std.proofs.lemmas.Option.{same_Some}
@@ -15,17 +15,19 @@ use Rattle.av_frame.specs.declared.faults.HeadError.TheVariants as head
 use Rattle.av_frame.specs.declared.faults.WriteError.{WriteError}
 use Rattle.av_frame.specs.declared.faults.WriteError.TheVariants as write
 use Rattle.av_frame.specs.Frames.{FrameValue}
+use Rattle.avgraph.proofs.FilterLemmas.{through-nil}
 use Rattle.avgraph.proofs.LineLemmas.{header_unique}
 use Rattle.avgraph.specs.HostRuns.{WritesPart}
 use Rattle.avgraph.specs.HeaderTexts.{BeginsHeader, header_text}
 use Rattle.avgraph.specs.FrameTexts.{frames_text, AreFramesFrom}
-use Rattle.avgraph.specs.Flips.{hflip}
+use Rattle.avgraph.specs.Filters.{through}
 use Rattle.avgraph.specs.Reading.{Reading, Heads}
 use Rattle.avgraph.specs.Writing.{Writing}
 use Rattle.avgraph.specs.Answers.{BeginsFile, IsNotYet, open_text}
-use Rattle.avgraph.specs.Running.{Moves, MovesAll, MovesWhole, MovesPart, IsNoFrames, Runs, flipped_text, stop_of_write}
+use Rattle.avgraph.specs.Running.{Moves, MovesAll, MovesWhole, MovesPart, IsNoFrames, Runs, passed_text, stop_of_write}
 use Rattle.avgraph.specs.Commands.{LeavesAll, Leaves, OpensWell, OpensFile, CreatesWith, CreatesPart, CreatesFile, KeepsInputs, Finishes, Breaks, Stops, Commands, stop_of_opening, stop_of_head}
-use Rattle.avgraph.specs.declared.fault.Fault.TheVariants.{NotYet, OpenFault, ReadFault, WriteFault}
+use Rattle.avgraph.specs.declared.filters.Filter.{Filter}
+use Rattle.avgraph.specs.declared.fault.Fault.TheVariants.{NotYet, OpenFault, ReadFault, WriteFault, TextFault, Limit}
 use Rattle.avgraph.specs.declared.fault.Stop.{Stop}
 use Rattle.avgraph.specs.declared.fault.Stop.TheVariants as stop
 
@@ -149,8 +151,8 @@ module _ {limit : ℕ} {a b : World} {input : List ℕ} {reader : Reading} {shap
     left_created x e = ap (λ (i : Inputs). i.left reader.id) inputs_stay ∙ left x e
 
     -- a beginning of the header stands in the output
-    begun_header : (count : ℕ) → text ≡ take count (header_text shape) → Breaks a c input output
-    begun_header count e = record {
+    begun_header : (filters : List Filter) (count : ℕ) → text ≡ take count (header_text shape) → Breaks filters a c input output
+    begun_header filters count e = record {
       put = text;
       leaves = leaves_created;
       begun = λ x held. record {
@@ -158,7 +160,7 @@ module _ {limit : ℕ} {a b : World} {input : List ℕ} {reader : Reading} {shap
         frames = [];
         count = count;
         file = record { line = o.line; rest = drop (length o.line) x; header = o.header; are_frames = tt; text = begins x held };
-        put_is = e ∙ ap (take count) (sym (append-nil (header_text shape)));
+        put_is = e ∙ ap (take count) (sym (ap (open_text shape) (through-nil filters) ∙ append-nil (header_text shape)));
       };
     }
 
@@ -177,35 +179,35 @@ module _ {limit : ℕ} {a b : World} {input : List ℕ} {reader : Reading} {shap
               ∙ ap (λ (z : List ℕ). o.line ++ z) (m.inputs.begins tail (left_created x held) ∙ append_assoc (frames_text frames) rest behind);
         }
 
-    module _ (whole : text ≡ header_text shape) where
-      stopped_whole : {d : World} → MovesWhole shape c d reader.id id → Breaks a d input output
+    module _ (filters : List Filter) (whole : text ≡ header_text shape) where
+      stopped_whole : {d : World} → MovesWhole shape filters c d reader.id id → Breaks filters a d input output
       stopped_whole {d} m = record {
-        put = text ++ flipped_text m.frames;
+        put = text ++ passed_text filters m.frames;
         leaves = leaves_moved m.moves;
         begun = λ x held. record {
           shape = shape;
           frames = m.frames;
-          count = length (open_text shape (map hflip m.frames));
+          count = length (open_text shape (through filters m.frames));
           file = file_of m.rest m.are_frames m.moves x held;
-          put_is = ap (λ (z : List ℕ). z ++ flipped_text m.frames) whole ∙ sym (take-length (open_text shape (map hflip m.frames)));
+          put_is = ap (λ (z : List ℕ). z ++ passed_text filters m.frames) whole ∙ sym (take-length (open_text shape (through filters m.frames)));
         };
       }
 
-      stopped_part : {d : World} → MovesPart shape c d reader.id id → Breaks a d input output
+      stopped_part : {d : World} → MovesPart shape filters c d reader.id id → Breaks filters a d input output
       stopped_part {d} m = record {
-        put = text ++ take m.count (flipped_text m.frames);
+        put = text ++ take m.count (passed_text filters m.frames);
         leaves = leaves_moved m.moves;
         begun = λ x held. record {
           shape = shape;
           frames = m.frames;
           count = length (header_text shape) + m.count;
           file = file_of m.rest m.are_frames m.moves x held;
-          put_is = ap (λ (z : List ℕ). z ++ take m.count (flipped_text m.frames)) whole ∙ sym (take-append-add (header_text shape) (flipped_text m.frames) m.count);
+          put_is = ap (λ (z : List ℕ). z ++ take m.count (passed_text filters m.frames)) whole ∙ sym (take-append-add (header_text shape) (passed_text filters m.frames) m.count);
         };
       }
 
       -- the input isn't a file
-      no_file : ForSome (c.inputs.left reader.id) (IsNoFrames shape (limit - length o.line)) → ForSome (a.held input) (IsNotYet limit)
+      no_file : ForSome (c.inputs.left reader.id) (IsNoFrames shape (limit - length o.line)) → ForSome (a.held input) (IsNotYet limit filters)
       no_file none = λ x held out answers.
           let tail = drop (length o.line) x in
           let file = answers.file in
@@ -215,16 +217,16 @@ module _ {limit : ℕ} {a b : World} {input : List ℕ} {reader : Reading} {shap
           none tail (left_created x held) answers.frames (subst (λ (s : Shape). AreFramesFrom s 0 answers.frames) (sym same.1) file.are_frames) behind
           (let within = answers.within in let n = ap length (begins x held) ∙ length-append o.line tail in let h = o.within in omega arith)
 
-      finishes : {d : World} → MovesAll shape (limit - length o.line) c d reader.id id → Finishes limit a d input output
+      finishes : {d : World} → MovesAll shape filters (limit - length o.line) c d reader.id id → Finishes limit filters a d input output
       finishes {d} m = record {
         bytes = o.line ++ frames_text m.frames;
-        out = text ++ flipped_text m.frames;
+        out = text ++ passed_text filters m.frames;
         answers = record {
           shape = shape;
           frames = m.frames;
           file = record { line = o.line; header = o.header; are_frames = m.are_frames; text = refl };
           within = let n = length-append o.line (frames_text m.frames) in let h = o.within in let w = m.within in omega arith;
-          out_is = ap (λ (z : List ℕ). z ++ flipped_text m.frames) whole;
+          out_is = ap (λ (z : List ℕ). z ++ passed_text filters m.frames) whole;
         };
         leaves = leaves_moved m.moves;
         held = λ x held. begins x held ∙ ap (λ (z : List ℕ). o.line ++ z) (m.all (drop (length o.line) x) (left_created x held));
@@ -241,8 +243,8 @@ module _ {limit : ℕ} {a b : World} {input : List ℕ} {reader : Reading} {shap
       }
 
 -- the input was not opened well
-pub open_refused : (limit : ℕ) (a b : World) (input output : List ℕ) (stops : Stop) → OpensFile limit a b input (Err stops) → Commands limit a b input output (Err stops)
-open_refused limit a b input output (stop.Fault NotYet) h = (
+pub open_refused : (limit : ℕ) (filters : List Filter) (a b : World) (input output : List ℕ) (stops : Stop) → OpensFile limit a b input (Err stops) → Commands limit filters a b input output (Err stops)
+open_refused limit filters a b input output (stop.Fault NotYet) h = (
   inl h.0,
   λ x held out answers.
       h.1 x held (record {
@@ -253,35 +255,41 @@ open_refused limit a b input output (stop.Fault NotYet) h = (
         text_is = take_all limit x answers.within ∙ answers.file.text;
       }),
 )
-open_refused limit a b input output (stop.Fault OpenFault) h = inl h
-open_refused limit a b input output (stop.Fault ReadFault) h = inl h
-open_refused limit a b input output (stop.Fault WriteFault) h = inl h
-open_refused limit a b input output stop.NoMemory h = inl h
+open_refused limit filters a b input output (stop.Fault OpenFault) h = inl h
+open_refused limit filters a b input output (stop.Fault ReadFault) h = inl h
+open_refused limit filters a b input output (stop.Fault WriteFault) h = inl h
+open_refused limit filters a b input output (stop.Fault (TextFault at kind)) h = absurd h
+open_refused limit filters a b input output (stop.Fault (Limit kind which allowed)) h = absurd h
+open_refused limit filters a b input output stop.NoMemory h = inl h
 
-create_part : {limit : ℕ} {a b c : World} {input output : List ℕ} {reader : Reading} {shape : Shape} → OpensWell limit a b input reader shape → CreatesPart b c output shape → Stops a c input output
-create_part o (inl l) = inl (created_none o l)
-create_part o (inr k) = inr (begun_header o k.2 k.1 refl)
+create_part : (filters : List Filter) {limit : ℕ} {a b c : World} {input output : List ℕ} {reader : Reading} {shape : Shape} → OpensWell limit a b input reader shape → CreatesPart b c output shape → Stops filters a c input output
+create_part filters o (inl l) = inl (created_none o l)
+create_part filters o (inr k) = inr (begun_header o k.2 filters k.1 refl)
 
 -- the output was not created well
-pub create_refused : (limit : ℕ) (a b c : World) (input output : List ℕ) (reader : Reading) (shape : Shape) (stops : Stop) → OpensWell limit a b input reader shape → CreatesFile b c output shape (Err stops)
-    → Commands limit a c input output (Err stops)
-create_refused limit a b c input output reader shape (stop.Fault NotYet) o h = absurd h
-create_refused limit a b c input output reader shape (stop.Fault OpenFault) o h = create_part o h
-create_refused limit a b c input output reader shape (stop.Fault ReadFault) o h = absurd h
-create_refused limit a b c input output reader shape (stop.Fault WriteFault) o h = create_part o h
-create_refused limit a b c input output reader shape stop.NoMemory o h = create_part o h
+pub create_refused : (limit : ℕ) (filters : List Filter) (a b c : World) (input output : List ℕ) (reader : Reading) (shape : Shape) (stops : Stop) → OpensWell limit a b input reader shape → CreatesFile b c output shape (Err stops)
+    → Commands limit filters a c input output (Err stops)
+create_refused limit filters a b c input output reader shape (stop.Fault NotYet) o h = absurd h
+create_refused limit filters a b c input output reader shape (stop.Fault OpenFault) o h = create_part filters o h
+create_refused limit filters a b c input output reader shape (stop.Fault ReadFault) o h = absurd h
+create_refused limit filters a b c input output reader shape (stop.Fault WriteFault) o h = create_part filters o h
+create_refused limit filters a b c input output reader shape (stop.Fault (TextFault at kind)) o h = absurd h
+create_refused limit filters a b c input output reader shape (stop.Fault (Limit kind which allowed)) o h = absurd h
+create_refused limit filters a b c input output reader shape stop.NoMemory o h = create_part filters o h
 
 -- the loop ran
-pub commands : (limit : ℕ) (a b c d : World) (input output : List ℕ) (reader : Reading) (shape : Shape) (writer : Writing) (result : Result (Unit {0}) Stop) → OpensWell limit a b input reader shape
-    → CreatesWith b c output writer.id (header_text shape) → writer.shape ≡ shape → Runs c d reader writer result → Commands limit a d input output result
-commands limit a b c d input output reader shape writer (Ok done) o k e r =
-    finishes o k refl (subst (λ (n : ℕ). MovesAll shape n c d reader.id writer.id) (ap (λ (v : Reading). v.room) o.reader_is) (subst (λ (s : Shape). MovesAll s reader.room c d reader.id writer.id) e r))
-commands limit a b c d input output reader shape writer (Err (stop.Fault NotYet)) o k e r = (
-  inr (stopped_whole o k refl (subst (λ (s : Shape). MovesWhole s c d reader.id writer.id) e r.0)),
-  no_file o k refl (subst (λ (n : ℕ). ForSome (c.inputs.left reader.id) (IsNoFrames shape n)) (ap (λ (v : Reading). v.room) o.reader_is)
+pub commands : (limit : ℕ) (filters : List Filter) (a b c d : World) (input output : List ℕ) (reader : Reading) (shape : Shape) (writer : Writing) (result : Result (Unit {0}) Stop) → OpensWell limit a b input reader shape
+    → CreatesWith b c output writer.id (header_text shape) → writer.shape ≡ shape → Runs filters c d reader writer result → Commands limit filters a d input output result
+commands limit filters a b c d input output reader shape writer (Ok done) o k e r =
+    finishes o k filters refl (subst (λ (n : ℕ). MovesAll shape filters n c d reader.id writer.id) (ap (λ (v : Reading). v.room) o.reader_is) (subst (λ (s : Shape). MovesAll s filters reader.room c d reader.id writer.id) e r))
+commands limit filters a b c d input output reader shape writer (Err (stop.Fault NotYet)) o k e r = (
+  inr (stopped_whole o k filters refl (subst (λ (s : Shape). MovesWhole s filters c d reader.id writer.id) e r.0)),
+  no_file o k filters refl (subst (λ (n : ℕ). ForSome (c.inputs.left reader.id) (IsNoFrames shape n)) (ap (λ (v : Reading). v.room) o.reader_is)
       (subst (λ (s : Shape). ForSome (c.inputs.left reader.id) (IsNoFrames s reader.room)) e r.1)),
 )
-commands limit a b c d input output reader shape writer (Err (stop.Fault OpenFault)) o k e r = absurd r
-commands limit a b c d input output reader shape writer (Err (stop.Fault ReadFault)) o k e r = inr (stopped_part o k refl (subst (λ (s : Shape). MovesPart s c d reader.id writer.id) e r))
-commands limit a b c d input output reader shape writer (Err (stop.Fault WriteFault)) o k e r = inr (stopped_part o k refl (subst (λ (s : Shape). MovesPart s c d reader.id writer.id) e r))
-commands limit a b c d input output reader shape writer (Err stop.NoMemory) o k e r = inr (stopped_part o k refl (subst (λ (s : Shape). MovesPart s c d reader.id writer.id) e r))
+commands limit filters a b c d input output reader shape writer (Err (stop.Fault OpenFault)) o k e r = absurd r
+commands limit filters a b c d input output reader shape writer (Err (stop.Fault ReadFault)) o k e r = inr (stopped_part o k filters refl (subst (λ (s : Shape). MovesPart s filters c d reader.id writer.id) e r))
+commands limit filters a b c d input output reader shape writer (Err (stop.Fault WriteFault)) o k e r = inr (stopped_part o k filters refl (subst (λ (s : Shape). MovesPart s filters c d reader.id writer.id) e r))
+commands limit filters a b c d input output reader shape writer (Err (stop.Fault (TextFault at kind))) o k e r = absurd r
+commands limit filters a b c d input output reader shape writer (Err (stop.Fault (Limit kind which allowed))) o k e r = absurd r
+commands limit filters a b c d input output reader shape writer (Err stop.NoMemory) o k e r = inr (stopped_part o k filters refl (subst (λ (s : Shape). MovesPart s filters c d reader.id writer.id) e r))

@@ -1,5 +1,5 @@
 -- From the files and the printing to the answer.
-use Rattle.std.proofs.Common.{◌≡◌, ◌≢◌, ℕ, List, [], ◌++◌, take, length, Option, Some, None, Result, Ok, Err, OnOk, OnErr, MatchResult, ap, sym, ◌∙◌, subst, arith, inl, inr}
+use Rattle.std.proofs.Common.{◌≡◌, ◌≢◌, ◌⊎◌, ℕ, List, [], ◌++◌, take, length, Some, Result, Ok, Err, OnOk, OnErr, MatchResult, refl, ap, sym, ◌∙◌, subst, arith, inl, inr}
 use Rattle.std.specs.Option.{ForSome}
 use Rattle.std.proofs.Math.Seq.{take-length}
 use Rattle.std.proofs.lemmas.List.{append-nil}
@@ -10,12 +10,15 @@ use Rattle.avgraph.specs.HostRuns.{SaysPart}
 use Rattle.avgraph.specs.HeaderTexts.{BeginsHeader}
 use Rattle.avgraph.specs.FrameTexts.{frames_text}
 use Rattle.avgraph.specs.Answers.{Answers, IsNotYet}
-use Rattle.avgraph.specs.declared.fault.Fault.TheVariants.{NotYet, OpenFault, ReadFault, WriteFault}
+use Rattle.avgraph.specs.declared.filters.Filter.{Filter}
+use Rattle.avgraph.specs.Requests.{Request, IsRequest, IsRefused, IsRefusedAtOnce}
+use Rattle.avgraph.specs.declared.fault.Fault.{Fault}
+use Rattle.avgraph.specs.declared.fault.Fault.TheVariants.{NotYet, OpenFault, ReadFault, WriteFault, TextFault, Limit}
 use Rattle.avgraph.specs.declared.fault.Stop.{Stop}
 use Rattle.avgraph.specs.declared.fault.Stop.TheVariants as stop
 use Rattle.avgraph.specs.Faults.{CountsStop, stop_line, stop_status}
 use Rattle.avgraph.specs.Commands.{Commands, KeepsInputs, LeavesAll, Finishes, IsBegun, Stops}
-use Rattle.avgraph.specs.Headline.{Prints, Reports, Obeys, HasCause, IsQuiet, Done, Completes, Keeps, SaysLine, SaysStatus}
+use Rattle.avgraph.specs.Headline.{Prints, Reports, Obeys, Refuses, HasCause, IsQuiet, Done, Completes, Keeps, SaysLine, SaysStatus}
 
 -- ---- what is printed
 
@@ -63,6 +66,8 @@ cause (Ok u) old mid new status k r =
     let s : status ≡ 0 = r.0 in
     no_rise status (ap (λ (f : Faults). f.openings) e) (ap (λ (f : Faults). f.reads) e) (ap (λ (f : Faults). f.writes) e) (λ h. omega arith) (λ h. omega arith) (λ h. omega arith)
 cause (Err (stop.Fault NotYet)) old mid new status k r = let s : status ≡ 15 = r.0 in still old status k r.1 (λ h. omega arith) (λ h. omega arith) (λ h. omega arith)
+cause (Err (stop.Fault (TextFault at kind))) old mid new status k r = let s : status ≡ 3 = r.0 in still old status k r.1 (λ h. omega arith) (λ h. omega arith) (λ h. omega arith)
+cause (Err (stop.Fault (Limit kind which allowed))) old mid new status k r = let s : status ≡ 10 = r.0 in still old status k r.1 (λ h. omega arith) (λ h. omega arith) (λ h. omega arith)
 cause (Err stop.NoMemory) old mid new status k r = let s : status ≡ 14 = r.0 in still old status k r.1 (λ h. omega arith) (λ h. omega arith) (λ h. omega arith)
 cause (Err (stop.Fault OpenFault)) old mid new status k r =
     let s : status ≡ 11 = r.0 in let p = r.1.reads in let q = r.1.writes in let x = k.reads in let y = k.writes in
@@ -95,13 +100,9 @@ cause (Err (stop.Fault WriteFault)) old mid new status k r =
       writing_forces = λ h. s;
     }
 
-counts_of : (limit : ℕ) (words : Option (List ℕ × List ℕ)) (old mid : World) (outcome : Result (Unit {0}) Stop) → Obeys limit words old mid outcome → CountsStop outcome old.faults mid.faults
-counts_of limit None old mid outcome h = rw h.0 (ap (λ (w : World). w.faults) h.1)
-counts_of limit (Some names) old mid outcome h = h.1
-
-pub has_cause : (limit : ℕ) (words : Option (List ℕ × List ℕ)) (outcome : Result (Unit {0}) Stop) (old mid new : World) (status : ℕ) → Obeys limit words old mid outcome → Reports mid new outcome status
+pub has_cause : (limit : ℕ) (words : List (List ℕ)) (outcome : Result (Unit {0}) Stop) (old mid new : World) (status : ℕ) → Obeys limit words old mid outcome → Reports mid new outcome status
     → HasCause old.faults new.faults status
-has_cause limit words outcome old mid new status h r = cause outcome old mid new status (counts_of limit words old mid outcome h) r
+has_cause limit words outcome old mid new status h r = cause outcome old mid new status h.counts r
 
 -- ---- the answer
 
@@ -111,26 +112,30 @@ some_status (stop.Fault NotYet) e = omega arith
 some_status (stop.Fault OpenFault) e = omega arith
 some_status (stop.Fault ReadFault) e = omega arith
 some_status (stop.Fault WriteFault) e = omega arith
+some_status (stop.Fault (TextFault at kind)) e = omega arith
+some_status (stop.Fault (Limit kind which allowed)) e = omega arith
 some_status stop.NoMemory e = omega arith
 
-module _ (limit : ℕ) (old mid new : World) (input output : List ℕ) (status : ℕ) where
-  pub done : (outcome : Result (Unit {0}) Stop) → Commands limit old mid input output outcome → Reports mid new outcome status → status ≡ 0 → ForSome (old.held input) (Done limit old new output)
+module _ (limit : ℕ) (filters : List Filter) (old mid new : World) (input output : List ℕ) (status : ℕ) where
+  pub done : (outcome : Result (Unit {0}) Stop) → Commands limit filters old mid input output outcome → Reports mid new outcome status → status ≡ 0 → ForSome (old.held input) (Done limit filters old new output)
   done (Ok u) k r s = λ x e.
-      let f = subst (λ (w : World). Finishes limit old w input output) (sym r.1) k in
+      let f = subst (λ (w : World). Finishes limit filters old w input output) (sym r.1) k in
       let same = f.held x e in
       record { out = f.out; answers = rw same f.answers; content = f.leaves.content; to_end = f.to_end x e }
   done (Err stops) k r s = absurd (some_status stops (sym r.0 ∙ s))
 
-  pub not_yet : (outcome : Result (Unit {0}) Stop) → Commands limit old mid input output outcome → Reports mid new outcome status → status ≡ 15 → ForSome (old.held input) (IsNotYet limit)
+  pub not_yet : (outcome : Result (Unit {0}) Stop) → Commands limit filters old mid input output outcome → Reports mid new outcome status → status ≡ 15 → ForSome (old.held input) (IsNotYet limit filters)
   not_yet (Ok u) k r s = let h : status ≡ 0 = r.0 in absurd (omega arith)
   not_yet (Err (stop.Fault NotYet)) k r s = k.1
   not_yet (Err (stop.Fault OpenFault)) k r s = let h : status ≡ 11 = r.0 in absurd (omega arith)
   not_yet (Err (stop.Fault ReadFault)) k r s = let h : status ≡ 12 = r.0 in absurd (omega arith)
   not_yet (Err (stop.Fault WriteFault)) k r s = let h : status ≡ 13 = r.0 in absurd (omega arith)
+  not_yet (Err (stop.Fault (TextFault at kind))) k r s = absurd k
+  not_yet (Err (stop.Fault (Limit kind which allowed))) k r s = absurd k
   not_yet (Err stop.NoMemory) k r s = let h : status ≡ 14 = r.0 in absurd (omega arith)
 
-  pub complete : (outcome : Result (Unit {0}) Stop) → Commands limit old mid input output outcome → CountsStop outcome old.faults mid.faults → Reports mid new outcome status
-      → IsQuiet old.faults new.faults → ForSome (old.held input) (Completes limit status)
+  pub complete : (outcome : Result (Unit {0}) Stop) → Commands limit filters old mid input output outcome → CountsStop outcome old.faults mid.faults → Reports mid new outcome status
+      → IsQuiet old.faults new.faults → ForSome (old.held input) (Completes limit filters status)
   complete (Ok u) k n r q = λ x e. record {
     answered = λ out a. inl r.0;
     not_yet = λ none. absurd (none k.out (rw (k.held x e) k.answers));
@@ -142,13 +147,15 @@ module _ (limit : ℕ) (old mid new : World) (input output : List ℕ) (status :
       absurd (let t = q.reads in let l = n.reads.later in let s = n.reads.risen in let p = r.1.reads in omega (arith, t.0, t.1, l, s, p))
   complete (Err (stop.Fault WriteFault)) k n r q = λ x e.
       absurd (let t = q.writes in let l = n.writes.later in let s = n.writes.risen in let p = r.1.writes in omega (arith, t.0, t.1, l, s, p))
+  complete (Err (stop.Fault (TextFault at kind))) k n r q = absurd k
+  complete (Err (stop.Fault (Limit kind which allowed))) k n r q = absurd k
   complete (Err stop.NoMemory) k n r q = λ x e. record { answered = λ out a. inr r.0; not_yet = λ none. inr r.0 }
 
 -- ---- what is left as it was
 
 -- what begins as a file begins with its header
-header_of : (bytes put : List ℕ) → IsBegun bytes put → BeginsHeader bytes
-header_of bytes put b = record {
+header_of : (filters : List Filter) (bytes put : List ℕ) → IsBegun filters bytes put → BeginsHeader bytes
+header_of filters bytes put b = record {
   shape = b.shape;
   line = b.file.line;
   rest = frames_text b.frames ++ b.file.rest;
@@ -157,8 +164,8 @@ header_of bytes put b = record {
 }
 
 -- a whole answer is a beginning of itself
-begun_whole : (limit : ℕ) (bytes out : List ℕ) → Answers limit bytes out → IsBegun bytes out
-begun_whole limit bytes out a = record {
+begun_whole : (limit : ℕ) (filters : List Filter) (bytes out : List ℕ) → Answers limit filters bytes out → IsBegun filters bytes out
+begun_whole limit filters bytes out a = record {
   shape = a.shape;
   frames = a.frames;
   count = length out;
@@ -172,17 +179,17 @@ begun_whole limit bytes out a = record {
   put_is = sym (take-length out) ∙ ap (take (length out)) a.out_is;
 }
 
-kept_all : {old mid : World} (input output : List ℕ) → LeavesAll old mid → Keeps old mid input output
-kept_all input output l = record {
+kept_all : (filters : List Filter) {old mid : World} (input output : List ℕ) → LeavesAll old mid → Keeps filters old mid input output
+kept_all filters input output l = record {
   held = l.held;
   inputs = l.inputs;
   other_outputs = λ o ne. ap (λ (s : Outputs). s.content o) l.outputs;
   content = inl (ap (λ (s : Outputs). s.content output) l.outputs);
 }
 
-kept_stops : {old mid : World} (input output : List ℕ) → Stops old mid input output → Keeps old mid input output
-kept_stops input output (inl l) = kept_all input output l
-kept_stops input output (inr b) = record {
+kept_stops : (filters : List Filter) {old mid : World} (input output : List ℕ) → Stops filters old mid input output → Keeps filters old mid input output
+kept_stops filters input output (inl l) = kept_all filters input output l
+kept_stops filters input output (inr b) = record {
   held = b.leaves.held;
   inputs = b.leaves.inputs;
   other_outputs = b.leaves.other_outputs;
@@ -190,32 +197,34 @@ kept_stops input output (inr b) = record {
 }
 
 -- a refusal leaves no output, or a beginning of the answer
-stops_of : (limit : ℕ) {old mid : World} {input output : List ℕ} (stops : Stop) → Commands limit old mid input output (Err stops) → Stops old mid input output
-stops_of limit (stop.Fault NotYet) k = k.0
-stops_of limit (stop.Fault OpenFault) k = k
-stops_of limit (stop.Fault ReadFault) k = k
-stops_of limit (stop.Fault WriteFault) k = k
-stops_of limit stop.NoMemory k = k
+stops_of : (limit : ℕ) (filters : List Filter) {old mid : World} {input output : List ℕ} (stops : Stop) → Commands limit filters old mid input output (Err stops) → Stops filters old mid input output
+stops_of limit filters (stop.Fault NotYet) k = k.0
+stops_of limit filters (stop.Fault OpenFault) k = k
+stops_of limit filters (stop.Fault ReadFault) k = k
+stops_of limit filters (stop.Fault WriteFault) k = k
+stops_of limit filters (stop.Fault (TextFault at kind)) k = absurd k
+stops_of limit filters (stop.Fault (Limit kind which allowed)) k = absurd k
+stops_of limit filters stop.NoMemory k = k
 
-kept_files : (limit : ℕ) (outcome : Result (Unit {0}) Stop) (old mid : World) (input output : List ℕ) → Commands limit old mid input output outcome → Keeps old mid input output
-kept_files limit (Ok u) old mid input output k = record {
+kept_files : (limit : ℕ) (filters : List Filter) (outcome : Result (Unit {0}) Stop) (old mid : World) (input output : List ℕ) → Commands limit filters old mid input output outcome → Keeps filters old mid input output
+kept_files limit filters (Ok u) old mid input output k = record {
   held = k.leaves.held;
   inputs = k.leaves.inputs;
   other_outputs = k.leaves.other_outputs;
-  content = inr (λ y made x e. (k.out, begun_whole limit x k.out (rw (k.held x e) k.answers), k.leaves.content y made));
+  content = inr (λ y made x e. (k.out, begun_whole limit filters x k.out (rw (k.held x e) k.answers), k.leaves.content y made));
 }
-kept_files limit (Err stops) old mid input output k = kept_stops input output (stops_of limit stops k)
+kept_files limit filters (Err stops) old mid input output k = kept_stops filters input output (stops_of limit filters stops k)
 
 -- printing leaves the files
 printed : (outcome : Result (Unit {0}) Stop) (mid new : World) (status : ℕ) → Reports mid new outcome status → (new.held ≡ mid.held) × (new.inputs ≡ mid.inputs) × (new.outputs ≡ mid.outputs)
 printed (Ok u) mid new status r = (ap (λ (w : World). w.held) r.1, ap (λ (w : World). w.inputs) r.1, ap (λ (w : World). w.outputs) r.1)
 printed (Err f) mid new status r = let s = r.1.part.1 in (s.held, s.inputs, s.outputs)
 
-pub kept : (limit : ℕ) (outcome : Result (Unit {0}) Stop) (old mid new : World) (input output : List ℕ) (status : ℕ) → Commands limit old mid input output outcome → Reports mid new outcome status
-    → Keeps old new input output
-kept limit outcome old mid new input output status k r =
+pub kept : (limit : ℕ) (filters : List Filter) (outcome : Result (Unit {0}) Stop) (old mid new : World) (input output : List ℕ) (status : ℕ) → Commands limit filters old mid input output outcome → Reports mid new outcome status
+    → Keeps filters old new input output
+kept limit filters outcome old mid new input output status k r =
     let p = printed outcome mid new status r in
-    let f = kept_files limit outcome old mid input output k in
+    let f = kept_files limit filters outcome old mid input output k in
     record {
       held = p.0 ∙ f.held;
       inputs = subst (λ (i : Inputs). KeepsInputs old.inputs i) (sym p.1) f.inputs;
@@ -224,41 +233,30 @@ kept limit outcome old mid new input output status k r =
     }
 
 -- where the input begins with no header, no output was created
-before_header : (limit : ℕ) (outcome : Result (Unit {0}) Stop) (old mid : World) (input output : List ℕ) → Commands limit old mid input output outcome
+before_header : (limit : ℕ) (filters : List Filter) (outcome : Result (Unit {0}) Stop) (old mid : World) (input output : List ℕ) → Commands limit filters old mid input output outcome
     → ForSome (old.held input) (λ bytes. ¬ BeginsHeader bytes → mid.outputs ≡ old.outputs)
-before_header limit (Ok u) old mid input output k = λ x e none.
-    absurd (none (header_of x k.out (begun_whole limit x k.out (rw (k.held x e) k.answers))))
-before_header limit (Err stops) old mid input output k = λ x e none. by_stops x e none (stops_of limit stops k)
+before_header limit filters (Ok u) old mid input output k = λ x e none.
+    absurd (none (header_of filters x k.out (begun_whole limit filters x k.out (rw (k.held x e) k.answers))))
+before_header limit filters (Err stops) old mid input output k = λ x e none. by_stops x e none (stops_of limit filters stops k)
   where
-    by_stops : (x : List ℕ) → old.held input ≡ Some x → ¬ BeginsHeader x → Stops old mid input output → mid.outputs ≡ old.outputs
+    by_stops : (x : List ℕ) → old.held input ≡ Some x → ¬ BeginsHeader x → Stops filters old mid input output → mid.outputs ≡ old.outputs
     by_stops x e none (inl l) = l.outputs
-    by_stops x e none (inr b) = absurd (none (header_of x b.put (b.begun x e)))
+    by_stops x e none (inr b) = absurd (none (header_of filters x b.put (b.begun x e)))
 
-pub header_first : (limit : ℕ) (outcome : Result (Unit {0}) Stop) (old mid new : World) (input output : List ℕ) (status : ℕ) → Commands limit old mid input output outcome → Reports mid new outcome status
+pub header_first : (limit : ℕ) (filters : List Filter) (outcome : Result (Unit {0}) Stop) (old mid new : World) (input output : List ℕ) (status : ℕ) → Commands limit filters old mid input output outcome → Reports mid new outcome status
     → ForSome (old.held input) (λ bytes. ¬ BeginsHeader bytes → new.outputs ≡ old.outputs)
-header_first limit outcome old mid new input output status k r = λ x e none.
-    (printed outcome mid new status r).2 ∙ before_header limit outcome old mid input output k x e none
+header_first limit filters outcome old mid new input output status k r = λ x e none.
+    (printed outcome mid new status r).2 ∙ before_header limit filters outcome old mid input output k x e none
 
 -- ---- what was said
 
-pub refused : (limit : ℕ) (words : Option (List ℕ × List ℕ)) (outcome : Result (Unit {0}) Stop) (old mid new : World) (status : ℕ) → Obeys limit words old mid outcome → Reports mid new outcome status
-    → words ≡ None → (status ≡ 15) × Prints old new (stop_line (stop.Fault NotYet))
-refused limit None outcome old mid new status h r e =
-    let r1 = subst (λ (o : Result (Unit {0}) Stop). Reports mid new o status) h.0 r in
-    subst (λ (w : World). (status ≡ 15) × Prints w new (stop_line (stop.Fault NotYet))) h.1 r1
-refused limit (Some names) outcome old mid new status h r e = absurd (let x : Some names ≡ None = e in cc)
+said_stops : (filters : List Filter) {old mid : World} (input output : List ℕ) → Stops filters old mid input output → mid.said ≡ old.said
+said_stops filters input output (inl l) = l.said
+said_stops filters input output (inr b) = b.leaves.said
 
-said_stops : {old mid : World} (input output : List ℕ) → Stops old mid input output → mid.said ≡ old.said
-said_stops input output (inl l) = l.said
-said_stops input output (inr b) = b.leaves.said
-
-said_by : (limit : ℕ) (outcome : Result (Unit {0}) Stop) (old mid : World) (input output : List ℕ) → Commands limit old mid input output outcome → mid.said ≡ old.said
-said_by limit (Ok u) old mid input output k = k.leaves.said
-said_by limit (Err stops) old mid input output k = said_stops input output (stops_of limit stops k)
-
-said_before : (limit : ℕ) (words : Option (List ℕ × List ℕ)) (outcome : Result (Unit {0}) Stop) (old mid : World) → Obeys limit words old mid outcome → mid.said ≡ old.said
-said_before limit None outcome old mid h = ap (λ (w : World). w.said) h.1
-said_before limit (Some names) outcome old mid h = said_by limit outcome old mid names.0 names.1 h.0
+pub said_by : (limit : ℕ) (filters : List Filter) (outcome : Result (Unit {0}) Stop) (old mid : World) (input output : List ℕ) → Commands limit filters old mid input output outcome → mid.said ≡ old.said
+said_by limit filters (Ok u) old mid input output k = k.leaves.said
+said_by limit filters (Err stops) old mid input output k = said_stops filters input output (stops_of limit filters stops k)
 
 sayings_before : (outcome : Result (Unit {0}) Stop) (old mid : Faults) → CountsStop outcome old mid → mid.sayings ≡ old.sayings
 sayings_before (Ok u) old mid k = ap (λ (f : Faults). f.sayings) k
@@ -266,6 +264,8 @@ sayings_before (Err (stop.Fault NotYet)) old mid k = ap (λ (f : Faults). f.sayi
 sayings_before (Err (stop.Fault OpenFault)) old mid k = k.sayings
 sayings_before (Err (stop.Fault ReadFault)) old mid k = k.sayings
 sayings_before (Err (stop.Fault WriteFault)) old mid k = k.sayings
+sayings_before (Err (stop.Fault (TextFault at kind))) old mid k = ap (λ (f : Faults). f.sayings) k
+sayings_before (Err (stop.Fault (Limit kind which allowed))) old mid k = ap (λ (f : Faults). f.sayings) k
 sayings_before (Err stop.NoMemory) old mid k = ap (λ (f : Faults). f.sayings) k
 
 says_line : (old mid new : World) (line : List ℕ) → mid.said ≡ old.said → mid.faults.sayings ≡ old.faults.sayings → Prints mid new line → SaysLine old new line
@@ -274,13 +274,50 @@ says_line old mid new line e k p = record {
   whole = λ small same x h. (p.whole (omega arith) (omega arith)).said x (e ∙ h);
 }
 
-pub silent : (limit : ℕ) (words : Option (List ℕ × List ℕ)) (outcome : Result (Unit {0}) Stop) (old mid new : World) (status : ℕ) → Obeys limit words old mid outcome → Reports mid new outcome status
+pub silent : (limit : ℕ) (words : List (List ℕ)) (outcome : Result (Unit {0}) Stop) (old mid new : World) (status : ℕ) → Obeys limit words old mid outcome → Reports mid new outcome status
     → status ≡ 0 → new.said ≡ old.said
-silent limit words (Ok u) old mid new status h r s = ap (λ (w : World). w.said) r.1 ∙ said_before limit words (Ok u) old mid h
+silent limit words (Ok u) old mid new status h r s = ap (λ (w : World). w.said) r.1 ∙ h.said
 silent limit words (Err stops) old mid new status h r s = absurd (some_status stops (sym r.0 ∙ s))
 
-pub said : (limit : ℕ) (words : Option (List ℕ × List ℕ)) (outcome : Result (Unit {0}) Stop) (old mid new : World) (status : ℕ) → Obeys limit words old mid outcome → Reports mid new outcome status
+pub said : (limit : ℕ) (words : List (List ℕ)) (outcome : Result (Unit {0}) Stop) (old mid new : World) (status : ℕ) → Obeys limit words old mid outcome → Reports mid new outcome status
     → status ≢ 0 → SaysStatus old new status
 said limit words (Ok u) old mid new status h r s = absurd (s r.0)
 said limit words (Err stops) old mid new status h r s =
-    (stops, r.0, says_line old mid new (stop_line stops) (said_before limit words (Err stops) old mid h) (sayings_before (Err stops) old.faults mid.faults (counts_of limit words old mid (Err stops) h)) r.1)
+    (stops, r.0, says_line old mid new (stop_line stops) h.said (sayings_before (Err stops) old.faults mid.faults h.counts) r.1)
+
+-- ---- words and texts that are refused
+
+-- what was reported of an outcome before which nothing was done
+reported : (outcome stopped : Result (Unit {0}) Stop) (old mid new : World) (status : ℕ) → outcome ≡ stopped → mid ≡ old → Reports mid new outcome status → Reports old new stopped status
+reported outcome stopped old mid new status e k r =
+    subst (λ (w : World). Reports w new stopped status) k (subst (λ (o : Result (Unit {0}) Stop). Reports mid new o status) e r)
+
+pub refused : (limit : ℕ) (words : List (List ℕ)) (outcome : Result (Unit {0}) Stop) (old mid new : World) (status : ℕ) → Obeys limit words old mid outcome → Reports mid new outcome status
+    → (fault : Fault) → IsRefused words fault → Refuses old new fault status
+refused limit words outcome old mid new status h r fault is =
+    let t = h.refusals fault is in
+    elim t.0 [ inl e ↦ inl (reported outcome (Err (stop.Fault fault)) old mid new status e t.1 r) | inr e ↦ inr (reported outcome (Err stop.NoMemory) old mid new status e t.1 r) ]
+
+pub at_once : (limit : ℕ) (words : List (List ℕ)) (outcome : Result (Unit {0}) Stop) (old mid new : World) (status : ℕ) → Obeys limit words old mid outcome → Reports mid new outcome status
+    → (fault : Fault) → IsRefusedAtOnce words fault → Reports old new (Err (stop.Fault fault)) status
+at_once limit words outcome old mid new status h r fault is = let t = h.at_once fault is in reported outcome (Err (stop.Fault fault)) old mid new status t.0 t.1 r
+
+other : {status n : ℕ} {A : Type 0} → status ≡ n → n ≢ 3 → n ≢ 10 → (status ≡ 3) ⊎ (status ≡ 10) → A
+other e three ten (inl s) = absurd (three (sym e ∙ s))
+other e three ten (inr s) = absurd (ten (sym e ∙ s))
+
+pub stands : (limit : ℕ) (words : List (List ℕ)) (outcome : Result (Unit {0}) Stop) (old mid new : World) (status : ℕ) → Obeys limit words old mid outcome → Reports mid new outcome status
+    → (status ≡ 3) ⊎ (status ≡ 10) → (fault : Fault) × IsRefused words fault × Reports old new (Err (stop.Fault fault)) status
+stands limit words (Ok u) old mid new status h r s = other {n = 0} r.0 (λ e. omega arith) (λ e. omega arith) s
+stands limit words (Err (stop.Fault NotYet)) old mid new status h r s = other {n = 15} r.0 (λ e. omega arith) (λ e. omega arith) s
+stands limit words (Err (stop.Fault OpenFault)) old mid new status h r s = other {n = 11} r.0 (λ e. omega arith) (λ e. omega arith) s
+stands limit words (Err (stop.Fault ReadFault)) old mid new status h r s = other {n = 12} r.0 (λ e. omega arith) (λ e. omega arith) s
+stands limit words (Err (stop.Fault WriteFault)) old mid new status h r s = other {n = 13} r.0 (λ e. omega arith) (λ e. omega arith) s
+stands limit words (Err (stop.Fault (TextFault at kind))) old mid new status h r s = let t = h.texts at kind refl in (TextFault at kind, t.0, reported (Err (stop.Fault (TextFault at kind))) (Err (stop.Fault (TextFault at kind))) old mid new status refl t.1 r)
+stands limit words (Err (stop.Fault (Limit kind which allowed))) old mid new status h r s = let t = h.limits kind which allowed refl in (Limit kind which allowed, t.0, reported (Err (stop.Fault (Limit kind which allowed))) (Err (stop.Fault (Limit kind which allowed))) old mid new status refl t.1 r)
+stands limit words (Err stop.NoMemory) old mid new status h r s = other {n = 14} r.0 (λ e. omega arith) (λ e. omega arith) s
+
+pub asked : (limit : ℕ) (words : List (List ℕ)) (outcome : Result (Unit {0}) Stop) (old mid new : World) (status : ℕ) → Obeys limit words old mid outcome → Reports mid new outcome status
+    → status ≡ 0 → (request : Request) × IsRequest words request
+asked limit words (Ok u) old mid new status h r s = h.asked u refl
+asked limit words (Err stops) old mid new status h r s = absurd (some_status stops (sym r.0 ∙ s))

@@ -1,5 +1,6 @@
 mod Pieces
 mod FlipLemmas
+mod FilterLemmas
 mod RowLemmas
 mod FrameLemmas
 mod ReadLemmas
@@ -10,6 +11,8 @@ mod LineLemmas
 mod RunLemmas
 mod CommandLemmas
 mod HeadlineLemmas
+mod RequestLemmas
+mod ObeyLemmas
 mod LawLemmas
 mod WrittenLemmas
 mod SlowLemmas

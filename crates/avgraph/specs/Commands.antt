@@ -1,5 +1,5 @@
 -- What the command does to the files.
-use Rattle.std.specs.Prelude.{◌≡◌, ◌≢◌, ◌⊎◌, ◌-◌, ◌≤◌, ℕ, List, [], true, false, map, take, length, Some, Result, Ok, Err}
+use Rattle.std.specs.Prelude.{◌≡◌, ◌≢◌, ◌⊎◌, ◌-◌, ◌≤◌, ℕ, List, [], true, false, take, length, Some, Result, Ok, Err}
 use Rattle.std.specs.Option.{ForSome}
 use Rattle.av_base.specs.declared.shapes.Shape.{Shape}
 use Rattle.av_host.specs.World.{World, Inputs}
@@ -10,13 +10,14 @@ use Rattle.av_frame.specs.declared.faults.HeadError.{HeadError}
 use Rattle.av_frame.specs.declared.faults.HeadError.TheVariants as head
 use Rattle.av_frame.specs.Frames.{FrameValue}
 use Rattle.avgraph.specs.HeaderTexts.{IsHeader, BeginsHeader, header_text}
-use Rattle.avgraph.specs.Flips.{hflip}
+use Rattle.avgraph.specs.Filters.{through}
 use Rattle.avgraph.specs.Answers.{Answers, IsNotYet, BeginsFile, open_text}
 use Rattle.avgraph.specs.Reading.{Reading}
 use Rattle.avgraph.specs.Writing.{Writing}
 use Rattle.avgraph.specs.declared.stages.Stage.TheVariants as stage
 use Rattle.avgraph.specs.declared.stages.Progress.TheVariants as progress
-use Rattle.avgraph.specs.declared.fault.Fault.TheVariants.{NotYet, OpenFault, ReadFault}
+use Rattle.avgraph.specs.declared.filters.Filter.{Filter}
+use Rattle.avgraph.specs.declared.fault.Fault.TheVariants.{NotYet, OpenFault, ReadFault, TextFault, Limit}
 use Rattle.avgraph.specs.declared.fault.Stop.{Stop}
 use Rattle.avgraph.specs.declared.fault.Stop.TheVariants as stop
 
@@ -65,6 +66,8 @@ pub record OpensWell (limit : ℕ) (old new : World) (name : List ℕ) (reader :
 abbrev pub OpensFile : ℕ → World → World → List ℕ → Result (Reading × Shape) Stop → Type 0
 OpensFile limit old new name (Ok both) = OpensWell limit old new name both.0 both.1
 OpensFile limit old new name (Err (stop.Fault NotYet)) = LeavesAll old new × ForSome (old.held name) (λ bytes. ¬ BeginsHeader (take limit bytes))
+OpensFile limit old new name (Err (stop.Fault (TextFault at kind))) = ⊥
+OpensFile limit old new name (Err (stop.Fault (Limit kind which allowed))) = ⊥
 OpensFile limit old new name (Err other) = LeavesAll old new
 
 -- The output was created, and of its header this much was written.
@@ -82,6 +85,8 @@ CreatesFile old new name shape (Ok writer) =
     CreatesWith old new name writer.id (header_text shape) × (writer ≡ record { id = writer.id; shape = shape; progress = progress.Started })
 CreatesFile old new name shape (Err (stop.Fault NotYet)) = ⊥
 CreatesFile old new name shape (Err (stop.Fault ReadFault)) = ⊥
+CreatesFile old new name shape (Err (stop.Fault (TextFault at kind))) = ⊥
+CreatesFile old new name shape (Err (stop.Fault (Limit kind which allowed))) = ⊥
 CreatesFile old new name shape (Err other) = CreatesPart old new name shape
 
 -- ---- the whole command
@@ -94,32 +99,34 @@ pub record IsReadToEnd (old new : World) : Type 0 where
   pub left : new.inputs.left id ≡ Some []
 
 -- The whole answer was written, and the input read to its end.
-pub record Finishes (limit : ℕ) (old new : World) (input output : List ℕ) : Type 0 where
+pub record Finishes (limit : ℕ) (filters : List Filter) (old new : World) (input output : List ℕ) : Type 0 where
   pub bytes : List ℕ
   pub out : List ℕ
-  pub answers : Answers limit bytes out
+  pub answers : Answers limit filters bytes out
   pub leaves : Leaves old new output out
   pub held : ForSome (old.held input) (λ all. all ≡ bytes)
   pub to_end : ForSome (old.held input) (λ _. IsReadToEnd old new)
 
--- a beginning of the open text of leading frames of the input, each flipped
-pub record IsBegun (bytes put : List ℕ) : Type 0 where
+-- a beginning of the open text of the frames that the filters give for leading frames of the input
+pub record IsBegun (filters : List Filter) (bytes put : List ℕ) : Type 0 where
   pub shape : Shape
   pub frames : List FrameValue
   pub count : ℕ
   pub file : BeginsFile bytes shape frames
-  pub put_is : put ≡ take count (open_text shape (map hflip frames))
+  pub put_is : put ≡ take count (open_text shape (through filters frames))
 
 -- The output was created, and holds a beginning of the answer.
-pub record Breaks (old new : World) (input output : List ℕ) : Type 0 where
+pub record Breaks (filters : List Filter) (old new : World) (input output : List ℕ) : Type 0 where
   pub put : List ℕ
   pub leaves : Leaves old new output put
-  pub begun : ForSome (old.held input) (λ bytes. IsBegun bytes put)
+  pub begun : ForSome (old.held input) (λ bytes. IsBegun filters bytes put)
 
-abbrev pub Stops : World → World → List ℕ → List ℕ → Type 0
-Stops old new input output = LeavesAll old new ⊎ Breaks old new input output
+abbrev pub Stops : List Filter → World → World → List ℕ → List ℕ → Type 0
+Stops filters old new input output = LeavesAll old new ⊎ Breaks filters old new input output
 
-abbrev pub Commands : ℕ → World → World → List ℕ → List ℕ → Result (Unit {0}) Stop → Type 0
-Commands limit old new input output (Ok done) = Finishes limit old new input output
-Commands limit old new input output (Err (stop.Fault NotYet)) = Stops old new input output × ForSome (old.held input) (IsNotYet limit)
-Commands limit old new input output (Err other) = Stops old new input output
+abbrev pub Commands : ℕ → List Filter → World → World → List ℕ → List ℕ → Result (Unit {0}) Stop → Type 0
+Commands limit filters old new input output (Ok done) = Finishes limit filters old new input output
+Commands limit filters old new input output (Err (stop.Fault NotYet)) = Stops filters old new input output × ForSome (old.held input) (IsNotYet limit filters)
+Commands limit filters old new input output (Err (stop.Fault (TextFault at kind))) = ⊥
+Commands limit filters old new input output (Err (stop.Fault (Limit kind which allowed))) = ⊥
+Commands limit filters old new input output (Err other) = Stops filters old new input output

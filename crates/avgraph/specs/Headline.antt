@@ -1,13 +1,17 @@
 -- The command from its words to its status.
-use Rattle.std.specs.Prelude.{◌≡◌, ◌≢◌, ◌⊎◌, ◌<◌, ◌-◌, ◌^◌, ◌++◌, ℕ, List, take, Option, Some, None, Result, Ok, Err}
+use Rattle.std.specs.Prelude.{◌≡◌, ◌≢◌, ◌⊎◌, ◌<◌, ◌-◌, ◌^◌, ◌++◌, ℕ, List, take, Some, Result, Ok, Err}
 use Rattle.std.specs.Option.{ForSome}
 use Rattle.av_host.specs.World.{World, Faults}
 use Rattle.av_host.specs.Calls.{Says, Rises}
 use Rattle.avgraph.specs.HostRuns.{SaysPart}
-use Rattle.avgraph.specs.declared.fault.Fault.TheVariants.{NotYet}
+use Rattle.av_text.specs.declared.fault.TextKind.{TextKind}
+use Rattle.avgraph.specs.declared.fault.Fault.{Fault}
+use Rattle.avgraph.specs.declared.fault.Fault.TheVariants.{TextFault, Limit}
+use Rattle.avgraph.specs.declared.fault.LimitKind.{LimitKind}
 use Rattle.avgraph.specs.declared.fault.Stop.{Stop}
 use Rattle.avgraph.specs.declared.fault.Stop.TheVariants as stop
-use Rattle.avgraph.specs.Words.{words_of}
+use Rattle.avgraph.specs.declared.filters.Filter.{Filter}
+use Rattle.avgraph.specs.Requests.{Request, IsRequest, IsRefused, IsRefusedAtOnce}
 use Rattle.avgraph.specs.Faults.{CountsStop, stop_status, stop_line}
 use Rattle.avgraph.specs.Answers.{Answers, IsNotYet}
 use Rattle.avgraph.specs.Commands.{Commands, KeepsInputs, IsReadToEnd, IsBegun}
@@ -26,16 +30,29 @@ Reports old new (Ok done) status = (status ≡ 0) × (new ≡ old)
 Reports old new (Err stops) status = (status ≡ stop_status stops) × Prints old new (stop_line stops)
 
 -- what the words do, up to the printing
-abbrev pub Obeys : ℕ → Option (List ℕ × List ℕ) → World → World → Result (Unit {0}) Stop → Type 0
-Obeys limit None old new outcome = (outcome ≡ Err (stop.Fault NotYet)) × (new ≡ old)
-Obeys limit (Some names) old new outcome = Commands limit old new names.0 names.1 outcome × CountsStop outcome old.faults new.faults
+pub record Obeys (limit : ℕ) (words : List (List ℕ)) (old new : World) (outcome : Result (Unit {0}) Stop) : Type 0 where
+  -- what they ask for is done, or stopped
+  pub requests : (request : Request) → IsRequest words request → Commands limit request.filters old new request.input request.output outcome
+  -- what refuses them is the outcome, with want of memory beside it where the text has to be read, and no call is made
+  pub refusals : (fault : Fault) → IsRefused words fault → ((outcome ≡ Err (stop.Fault fault)) ⊎ (outcome ≡ Err stop.NoMemory)) × (new ≡ old)
+  pub at_once : (fault : Fault) → IsRefusedAtOnce words fault → (outcome ≡ Err (stop.Fault fault)) × (new ≡ old)
+  -- the faults of texts and limits stand in them, and what is done was asked for
+  pub texts : (at : ℕ) (kind : TextKind) → outcome ≡ Err (stop.Fault (TextFault at kind)) → IsRefused words (TextFault at kind) × (new ≡ old)
+  pub limits : (kind : LimitKind) (which allowed : ℕ) → outcome ≡ Err (stop.Fault (Limit kind which allowed)) → IsRefused words (Limit kind which allowed) × (new ≡ old)
+  pub asked : (done : Unit {0}) → outcome ≡ Ok done → (request : Request) × IsRequest words request
+  pub counts : CountsStop outcome old.faults new.faults
+  pub said : new.said ≡ old.said
 
 -- the files first, and then the printing
 pub record Acts (limit : ℕ) (words : List (List ℕ)) (old new : World) (status : ℕ) : Type 0 where
   pub outcome : Result (Unit {0}) Stop
   pub between : World
-  pub obeys : Obeys limit (words_of words) old between outcome
+  pub obeys : Obeys limit words old between outcome
   pub reports : Reports between new outcome status
+
+-- The fault is answered and printed, or want of memory is, and no other call is made.
+abbrev pub Refuses : World → World → Fault → ℕ → Type 0
+Refuses old new fault status = Reports old new (Err (stop.Fault fault)) status ⊎ Reports old new (Err stop.NoMemory) status
 
 -- A status of 11, 12 or 13 comes exactly where its count rose, so that no run raises two of them.
 pub record HasCause (old new : Faults) (status : ℕ) : Type 0 where
@@ -53,24 +70,24 @@ pub record IsQuiet (old new : Faults) : Type 0 where
   pub writes : (new.writes ≡ old.writes) × (new.writes < 2 ^ 64 - 1)
 
 -- The output holds the whole answer, and nothing is left of the input.
-pub record Done (limit : ℕ) (old new : World) (output : List ℕ) (bytes : List ℕ) : Type 0 where
+pub record Done (limit : ℕ) (filters : List Filter) (old new : World) (output : List ℕ) (bytes : List ℕ) : Type 0 where
   pub out : List ℕ
-  pub answers : Answers limit bytes out
+  pub answers : Answers limit filters bytes out
   pub content : ForSome (old.outputs.content output) (λ _. new.outputs.content output ≡ Some (Some out))
   pub to_end : IsReadToEnd old new
 
 -- With no failed call the status is that of the answer, or want of memory.
-pub record Completes (limit status : ℕ) (bytes : List ℕ) : Type 0 where
-  pub answered : (out : List ℕ) → Answers limit bytes out → (status ≡ 0) ⊎ (status ≡ 14)
-  pub not_yet : IsNotYet limit bytes → (status ≡ 15) ⊎ (status ≡ 14)
+pub record Completes (limit : ℕ) (filters : List Filter) (status : ℕ) (bytes : List ℕ) : Type 0 where
+  pub answered : (out : List ℕ) → Answers limit filters bytes out → (status ≡ 0) ⊎ (status ≡ 14)
+  pub not_yet : IsNotYet limit filters bytes → (status ≡ 15) ⊎ (status ≡ 14)
 
 -- Nothing of the files changed but, it may be, the output, which holds a beginning of the answer.
-pub record Keeps (old new : World) (input output : List ℕ) : Type 0 where
+pub record Keeps (filters : List Filter) (old new : World) (input output : List ℕ) : Type 0 where
   pub held : new.held ≡ old.held
   pub inputs : KeepsInputs old.inputs new.inputs
   pub other_outputs : (other : List ℕ) → other ≢ output → new.outputs.content other ≡ old.outputs.content other
   pub content : (new.outputs.content output ≡ old.outputs.content output)
-      ⊎ ForSome (old.outputs.content output) (λ _. ForSome (old.held input) (λ bytes. (put : List ℕ) × IsBegun bytes put × (new.outputs.content output ≡ Some (Some put))))
+      ⊎ ForSome (old.outputs.content output) (λ _. ForSome (old.held input) (λ bytes. (put : List ℕ) × IsBegun filters bytes put × (new.outputs.content output ≡ Some (Some put))))
 
 -- A beginning of the line was said, and all of it where no saying failed.
 pub record SaysLine (old new : World) (line : List ℕ) : Type 0 where

@@ -6,8 +6,10 @@ pub mod Reading
 pub mod Pieces
 pub mod Writing
 pub mod Flips
+pub mod Filters
 pub mod Faults
 pub mod Words
+pub mod Requests
 pub mod Running
 pub mod Answers
 pub mod Commands

@@ -1,5 +1,5 @@
 -- The run from an input to an output.
-use Rattle.std.specs.Prelude.{◌≡◌, ◌≤◌, ℕ, List, ◌++◌, map, take, length, Result, Ok, Err}
+use Rattle.std.specs.Prelude.{◌≡◌, ◌≤◌, ℕ, List, ◌++◌, take, length, Result, Ok, Err}
 use Rattle.std.specs.Option.{ForSome}
 use Rattle.av_base.specs.declared.shapes.Shape.{Shape}
 use Rattle.av_host.specs.World.{World}
@@ -10,10 +10,11 @@ use Rattle.av_frame.specs.declared.faults.WriteError.{WriteError}
 use Rattle.av_frame.specs.declared.faults.WriteError.TheVariants as write
 use Rattle.av_frame.specs.Frames.{FrameValue}
 use Rattle.avgraph.specs.FrameTexts.{frames_text, AreFramesFrom}
-use Rattle.avgraph.specs.Flips.{hflip}
+use Rattle.avgraph.specs.Filters.{through}
 use Rattle.avgraph.specs.Reading.{Reading}
 use Rattle.avgraph.specs.Writing.{Writing}
-use Rattle.avgraph.specs.declared.fault.Fault.TheVariants.{NotYet, OpenFault, ReadFault, WriteFault}
+use Rattle.avgraph.specs.declared.filters.Filter.{Filter}
+use Rattle.avgraph.specs.declared.fault.Fault.TheVariants.{NotYet, OpenFault, ReadFault, WriteFault, TextFault, Limit}
 use Rattle.avgraph.specs.declared.fault.Stop.{Stop}
 use Rattle.avgraph.specs.declared.fault.Stop.TheVariants as stop
 
@@ -24,45 +25,47 @@ pub record Moves (old new : World) (input output : ℕ) (got put : List ℕ) : T
   pub outputs : Alters old.outputs new.outputs output (appended put)
   pub said : new.said ≡ old.said
 
--- the text of the frames, each flipped
-abbrev pub flipped_text : List FrameValue → List ℕ
-flipped_text frames = frames_text (map hflip frames)
+-- the text of the frames at the end of the filters
+abbrev pub passed_text : List Filter → List FrameValue → List ℕ
+passed_text filters frames = frames_text (through filters frames)
 
 -- Whole frames were read, and after them it may be a part of another. All of them were written.
-pub record MovesWhole (shape : Shape) (old new : World) (input output : ℕ) : Type 0 where
+pub record MovesWhole (shape : Shape) (filters : List Filter) (old new : World) (input output : ℕ) : Type 0 where
   pub frames : List FrameValue
   pub rest : List ℕ
   pub are_frames : AreFramesFrom shape 0 frames
-  pub moves : Moves old new input output (frames_text frames ++ rest) (flipped_text frames)
+  pub moves : Moves old new input output (frames_text frames ++ rest) (passed_text filters frames)
 
 -- Of the frames that were read a beginning of the text was written.
-pub record MovesPart (shape : Shape) (old new : World) (input output : ℕ) : Type 0 where
+pub record MovesPart (shape : Shape) (filters : List Filter) (old new : World) (input output : ℕ) : Type 0 where
   pub frames : List FrameValue
   pub rest : List ℕ
   pub count : ℕ
   pub are_frames : AreFramesFrom shape 0 frames
-  pub moves : Moves old new input output (frames_text frames ++ rest) (take count (flipped_text frames))
+  pub moves : Moves old new input output (frames_text frames ++ rest) (take count (passed_text filters frames))
 
 -- what is left of the input isn't the text of frames within the limit
 abbrev pub IsNoFrames : Shape → ℕ → List ℕ → Type 0
 IsNoFrames shape room left = (frames : List FrameValue) → AreFramesFrom shape 0 frames → left ≡ frames_text frames → length left ≤ room → ⊥
 
 -- All that was left of the input was the text of frames within the limit, and they were written.
-pub record MovesAll (shape : Shape) (room : ℕ) (old new : World) (input output : ℕ) : Type 0 where
+pub record MovesAll (shape : Shape) (filters : List Filter) (room : ℕ) (old new : World) (input output : ℕ) : Type 0 where
   pub frames : List FrameValue
   pub are_frames : AreFramesFrom shape 0 frames
   pub within : length (frames_text frames) ≤ room
-  pub moves : Moves old new input output (frames_text frames) (flipped_text frames)
+  pub moves : Moves old new input output (frames_text frames) (passed_text filters frames)
   pub all : ForSome (old.inputs.left input) (λ left. left ≡ frames_text frames)
 
-abbrev pub Runs : World → World → Reading → Writing → Result (Unit {0}) Stop → Type 0
-Runs old new reader writer (Ok done) = MovesAll writer.shape reader.room old new reader.id writer.id
-Runs old new reader writer (Err (stop.Fault NotYet)) =
-    MovesWhole writer.shape old new reader.id writer.id × ForSome (old.inputs.left reader.id) (IsNoFrames writer.shape reader.room)
-Runs old new reader writer (Err (stop.Fault OpenFault)) = ⊥
-Runs old new reader writer (Err (stop.Fault ReadFault)) = MovesPart writer.shape old new reader.id writer.id
-Runs old new reader writer (Err (stop.Fault WriteFault)) = MovesPart writer.shape old new reader.id writer.id
-Runs old new reader writer (Err stop.NoMemory) = MovesPart writer.shape old new reader.id writer.id
+abbrev pub Runs : List Filter → World → World → Reading → Writing → Result (Unit {0}) Stop → Type 0
+Runs filters old new reader writer (Ok done) = MovesAll writer.shape filters reader.room old new reader.id writer.id
+Runs filters old new reader writer (Err (stop.Fault NotYet)) =
+    MovesWhole writer.shape filters old new reader.id writer.id × ForSome (old.inputs.left reader.id) (IsNoFrames writer.shape reader.room)
+Runs filters old new reader writer (Err (stop.Fault OpenFault)) = ⊥
+Runs filters old new reader writer (Err (stop.Fault ReadFault)) = MovesPart writer.shape filters old new reader.id writer.id
+Runs filters old new reader writer (Err (stop.Fault WriteFault)) = MovesPart writer.shape filters old new reader.id writer.id
+Runs filters old new reader writer (Err (stop.Fault (TextFault at kind))) = ⊥
+Runs filters old new reader writer (Err (stop.Fault (Limit kind which allowed))) = ⊥
+Runs filters old new reader writer (Err stop.NoMemory) = MovesPart writer.shape filters old new reader.id writer.id
 
 -- what a refused frame stops the command with
 abbrev pub stop_of_next : NextError → Stop

@@ -10,13 +10,13 @@ is_y4m name = bytes_eq (map to_ascii_lowercase (drop (length name - 4) name)) (c
 abbrev pub is_option : List ℕ → Bool
 is_option word = slice_index word 0 == 45
 
--- the five words name a flip of one file into another
-abbrev pub names_command : List ℕ → List ℕ → List ℕ → List ℕ → List ℕ → Bool
-names_command flag input graph text output =
-    bytes_eq flag (codes "-i") && (is_y4m input && (bytes_eq graph (codes "-filter_complex") && (bytes_eq text (codes "hflip")
-    && (is_y4m output && (not (is_option output) && not (bytes_eq input output))))))
+-- four of the five words name a file to be read and another to be written
+abbrev pub names_command : List ℕ → List ℕ → List ℕ → List ℕ → Bool
+names_command flag input graph output =
+    bytes_eq flag (codes "-i") && (is_y4m input && (bytes_eq graph (codes "-filter_complex")
+    && (is_y4m output && (not (is_option output) && not (bytes_eq input output)))))
 
--- the names of the input and of the output
-abbrev pub words_of : List (List ℕ) → Option (List ℕ × List ℕ)
-words_of (flag ∷ input ∷ graph ∷ text ∷ output ∷ []) = if names_command flag input graph text output then Some (input, output) else None
+-- the name of the input, the graph text and the name of the output
+abbrev pub words_of : List (List ℕ) → Option (List ℕ × List ℕ × List ℕ)
+words_of (flag ∷ input ∷ graph ∷ text ∷ output ∷ []) = if names_command flag input graph output then Some (input, text, output) else None
 words_of other = None

@@ -7,8 +7,9 @@ ghost use Rattle.avgraph.specs.declared.TheConstants.{LIMIT};
 
 use crate::LIMIT;
 use crate::fault::{Fault, Stop};
+use crate::filters::Filter;
 use crate::reader::Reader;
-use crate::run::{flip_all, stopped_writing};
+use crate::run::{pass_all, stopped_writing};
 use crate::writer::Writer;
 use av_base::{NoMemory, Shape};
 use av_frame::{HeadError, Pools};
@@ -78,14 +79,15 @@ fn create<H: Host>(alloc: Global, host: &mut H, name: &str, shape: Shape) -> Res
     }
 }
 
-/// Writes the input, flipped, to the output.
+/// Writes the input to the output, each frame as it comes out of the filters.
 pub(crate) fn run_command<H: Host>(
     alloc: Global,
     host: &mut H,
+    filters: &[Filter],
     input: &str,
     output: &str,
 ) -> Result<(), Stop>
-    ensures commands { Commands LIMIT (H.world host.old) (H.world host.new) input.now output.now result }
+    ensures commands { Commands LIMIT filters.now (H.world host.old) (H.world host.new) input.now output.now result }
     ensures faults { CountsStop result (H.world host.old).faults (H.world host.new).faults }
 {
     let mut pools = match Pools::new(alloc) {
@@ -104,12 +106,13 @@ pub(crate) fn run_command<H: Host>(
         Ok(writer) => writer,
         Err(stop) => return Err(stop),
     };
-    match flip_all(
+    match pass_all(
         alloc,
         host,
         &mut reader,
         &mut writer,
         &mut pools,
+        filters,
         &mut buffer,
     ) {
         Ok(()) => Ok(()),

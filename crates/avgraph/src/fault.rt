@@ -1,6 +1,21 @@
 //! What stops the command, and what is said of it.
-ghost use Rattle.std.specs.Prelude.{◌≡◌};
-ghost use Rattle.avgraph.specs.Faults.{stop_line, stop_status};
+ghost use Rattle.std.specs.Prelude.{◌≡◌, ◌+◌, ◌<◌, ◌≤◌, ◌++◌, length};
+ghost use Rattle.std.specs.Fmt.{decimal};
+ghost use Rattle.arrayvec.specs.ArrayString.{array_string_len};
+ghost use Rattle.avgraph.specs.Faults.{kind_word, limit_word, stop_text, stop_line, stop_status};
+
+use arrayvec::ArrayString;
+use av_text::TextKind;
+use itoa::Buffer;
+
+/// A quantity that has a limit.
+#[derive(Clone, Copy, Debug, PartialEq, Eq)]
+pub enum LimitKind {
+    /// Bytes of the graph text.
+    Text,
+    /// Filters of the graph.
+    Filters,
+}
 
 /// What stops the command, beside want of memory. A host's fault is counted once, since it ends the run.
 #[derive(Clone, Copy, Debug, PartialEq, Eq)]
@@ -13,6 +28,22 @@ pub enum Fault {
     ReadFault,
     /// The host failed at a write.
     WriteFault,
+    /// The graph text has no reading.
+    TextFault {
+        /// The byte of the text at which the fault stands, counted from 0.
+        at: u32,
+        /// What is wrong there.
+        kind: TextKind,
+    },
+    /// A quantity passes its limit.
+    Limit {
+        /// The quantity.
+        kind: LimitKind,
+        /// Which of several passes it, counted from 0, and 0 where there is one alone.
+        which: u32,
+        /// The greatest number allowed.
+        allowed: u64,
+    },
 }
 
 /// Why the command ended before all was done.
@@ -24,17 +55,107 @@ pub enum Stop {
     NoMemory,
 }
 
-/// The line that is said of a stop, with its line feed.
-pub(crate) fn line(stop: Stop) -> &'static [u8]
-    ensures { result.now ≡ stop_line stop }
+/// The room for a line, in bytes. No line fills it.
+const LINE_ROOM: usize = 128;
+
+/// The word for a fault of the graph text.
+fn kind_word(kind: TextKind) -> &'static str
+    ensures word { result.now ≡ kind_word kind }
+    ensures short { length result.now ≤ 16 }
+{
+    match kind {
+        TextKind::UnclosedQuote => "UnclosedQuote",
+        TextKind::LoneEscape => "LoneEscape",
+        TextKind::ExpectedName => "ExpectedName",
+        TextKind::BadLabel => "BadLabel",
+        TextKind::Stray => "Stray",
+    }
+}
+
+/// The word for a quantity that has a limit.
+fn limit_word(kind: LimitKind) -> &'static str
+    ensures word { result.now ≡ limit_word kind }
+    ensures short { length result.now ≤ 16 }
+{
+    match kind {
+        LimitKind::Text => "text",
+        LimitKind::Filters => "filters",
+    }
+}
+
+/// Appends a field's name and its word.
+fn put_word(line: &mut ArrayString<LINE_ROOM>, name: &str, word: &str)
+    requires { array_string_len line.old + length name.now + length word.now ≤ LINE_ROOM }
+    ensures text { line.new.bytes ≡ line.old.bytes ++ name.now ++ word.now }
+    ensures len { array_string_len line.new ≡ array_string_len line.old + length name.now + length word.now }
+{
+    line.push_str(name);
+    line.push_str(word);
+}
+
+/// Appends a field's name and its number.
+fn put_number(line: &mut ArrayString<LINE_ROOM>, name: &str, number: u64)
+    requires { array_string_len line.old + length name.now + 20 ≤ LINE_ROOM }
+    ensures text { line.new.bytes ≡ line.old.bytes ++ name.now ++ decimal number }
+    ensures len { array_string_len line.new ≤ array_string_len line.old + length name.now + 20 }
+{
+    let mut digits = Buffer::new();
+    put_word(line, name, digits.format(number));
+}
+
+/// Appends what is said of a fault of the graph text.
+fn put_text_fault(line: &mut ArrayString<LINE_ROOM>, at: u32, kind: TextKind)
+    requires { array_string_len line.old ≤ 16 }
+    ensures text { line.new.bytes ≡ line.old.bytes ++ stop_text (Stop.Fault (Fault.TextFault at kind)) }
+    ensures room { array_string_len line.new < LINE_ROOM }
+{
+    put_number(line, "TextFault at=", u64::from(at));
+    put_word(line, " kind=", kind_word(kind));
+}
+
+/// Appends what is said of a limit.
+fn put_limit(line: &mut ArrayString<LINE_ROOM>, kind: LimitKind, which: u32, allowed: u64)
+    requires { array_string_len line.old ≤ 16 }
+    ensures text { line.new.bytes ≡ line.old.bytes ++ stop_text (Stop.Fault (Fault.Limit kind which allowed)) }
+    ensures room { array_string_len line.new < LINE_ROOM }
+{
+    put_word(line, "Limit kind=", limit_word(kind));
+    put_number(line, " which=", u64::from(which));
+    put_number(line, " allowed=", allowed);
+}
+
+/// Appends the name of a stop and its fields.
+fn put_stop(line: &mut ArrayString<LINE_ROOM>, stop: Stop)
+    requires { array_string_len line.old ≤ 16 }
+    ensures text { line.new.bytes ≡ line.old.bytes ++ stop_text stop }
+    ensures room { array_string_len line.new < LINE_ROOM }
 {
     match stop {
-        Stop::Fault(Fault::NotYet) => b"avgraph: NotYet\n",
-        Stop::Fault(Fault::OpenFault) => b"avgraph: OpenFault count=1\n",
-        Stop::Fault(Fault::ReadFault) => b"avgraph: ReadFault count=1\n",
-        Stop::Fault(Fault::WriteFault) => b"avgraph: WriteFault count=1\n",
-        Stop::NoMemory => b"avgraph: NoMemory\n",
+        Stop::Fault(Fault::NotYet) => line.push_str("NotYet"),
+        Stop::Fault(Fault::OpenFault) => line.push_str("OpenFault count=1"),
+        Stop::Fault(Fault::ReadFault) => line.push_str("ReadFault count=1"),
+        Stop::Fault(Fault::WriteFault) => line.push_str("WriteFault count=1"),
+        Stop::Fault(Fault::TextFault { at, kind }) => put_text_fault(line, at, kind),
+        Stop::Fault(
+            Fault::Limit {
+                kind,
+                which,
+                allowed,
+            },
+        ) => put_limit(line, kind, which, allowed),
+        Stop::NoMemory => line.push_str("NoMemory"),
     }
+}
+
+/// The line that is said of a stop, with its line feed.
+pub(crate) fn line(stop: Stop) -> ArrayString<LINE_ROOM>
+    ensures { result.bytes ≡ stop_line stop }
+{
+    let mut line = ArrayString::new();
+    line.push_str("avgraph: ");
+    put_stop(&mut line, stop);
+    line.push_str("\n");
+    line
 }
 
 /// The program's status after a stop.
@@ -42,6 +163,8 @@ pub(crate) fn status(stop: Stop) -> u8
     ensures { result ≡ stop_status stop }
 {
     match stop {
+        Stop::Fault(Fault::TextFault { .. }) => 3,
+        Stop::Fault(Fault::Limit { .. }) => 10,
         Stop::Fault(Fault::OpenFault) => 11,
         Stop::Fault(Fault::ReadFault) => 12,
         Stop::Fault(Fault::WriteFault) => 13,

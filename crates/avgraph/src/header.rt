@@ -127,7 +127,7 @@ pub(crate) fn read_header(line: &[u8]) -> Option<Shape>
     if picture_bytes(PixelFormat::Yuv420p, width, height) > BYTES_MAX {
         return None;
     }
-    let rate = reduce(u64::from(num), u64::from(den))?;
+    let rate = reduce(u128::from(num), u128::from(den))?;
     Some(plain_shape(width, height, rate))
 }
 

@@ -3,12 +3,14 @@
 
 mod command;
 mod fault;
+mod filters;
 pub mod flip;
 mod form;
 mod header;
 mod host_runs;
 pub mod law;
 pub mod reader;
+mod request;
 mod rows;
 mod run;
 mod stages;
@@ -16,14 +18,19 @@ mod top;
 mod words;
 pub mod writer;
 
-pub use fault::{Fault, Stop};
+pub use fault::{Fault, LimitKind, Stop};
+pub use filters::Filter;
 pub use stages::{Progress, Stage};
 pub use top::{Gate, OpenGate, avgraph};
 
 #[cfg(test)]
+mod fault_tests;
+#[cfg(test)]
 mod slow_reader;
 #[cfg(test)]
 mod tests;
+#[cfg(test)]
+mod text_tests;
 
 /// The greatest number of bytes of an input.
 pub const LIMIT: u64 = 1 << 40;

@@ -7,7 +7,7 @@ ghost use Rattle.avgraph.specs.declared.stages.Stage.{Stage};
 ghost use Rattle.avgraph.specs.declared.stages.Progress.{Progress};
 
 use crate::fault::{Fault, Stop};
-use crate::flip::flip;
+use crate::filters::{Filter, pass};
 use crate::reader::Reader;
 use crate::writer::Writer;
 use av_base::NoMemory;
@@ -38,13 +38,14 @@ pub(crate) fn stopped_writing(error: WriteError) -> Stop
     }
 }
 
-/// Writes each frame that is left of the input, flipped. The buffer has room for a row.
-pub(crate) fn flip_all<H: Host>(
+/// Writes each frame that is left of the input as it comes out of the filters. The buffer has room for a row.
+pub(crate) fn pass_all<H: Host>(
     alloc: Global,
     host: &mut H,
     reader: &mut Reader,
     writer: &mut Writer,
     pools: &mut Pools,
+    filters: &[Filter],
     buffer: &mut [u8],
 ) -> Result<(), Stop>
     requires input { IsTrue ((H.world host.old).inputs.is_open reader.old.id) }
@@ -54,7 +55,7 @@ pub(crate) fn flip_all<H: Host>(
     requires started { writer.old.progress ≡ Progress.Started }
     requires limits { IsWithinLimits writer.old.shape }
     requires wide { 8192 ≤ length buffer.old }
-    ensures runs { Runs (H.world host.old) (H.world host.new) reader.old writer.old result }
+    ensures runs { Runs filters.now (H.world host.old) (H.world host.new) reader.old writer.old result }
     ensures faults { CountsStop result (H.world host.old).faults (H.world host.new).faults }
 {
     loop {
@@ -63,11 +64,11 @@ pub(crate) fn flip_all<H: Host>(
             Ok(None) => break,
             Err(error) => return Err(stopped_reading(error)),
         };
-        let mut flipped = match flip(alloc, pools, frame, buffer) {
-            Ok(flipped) => flipped,
+        let mut passed = match pass(alloc, pools, frame, filters, buffer) {
+            Ok(passed) => passed,
             Err(NoMemory) => return Err(Stop::NoMemory),
         };
-        match writer.frame(alloc, host, &mut flipped) {
+        match writer.frame(alloc, host, &mut passed) {
             Ok(()) => {}
             Err(error) => return Err(stopped_writing(error)),
         }

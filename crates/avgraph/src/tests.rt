@@ -9,10 +9,10 @@ use std::process::Abort;
 use std::test::Fail;
 
 /// A picture of 4x2 samples.
-const FILE: &[u8] =
+pub(crate) const FILE: &[u8] =
     b"YUV4MPEG2 W4 H2 F25:1 C420\nFRAME\n\x01\x02\x03\x04\x05\x06\x07\x08\x09\x0a\x0b\x0c";
 
-const FLIPPED: &[u8] =
+pub(crate) const FLIPPED: &[u8] =
     b"YUV4MPEG2 W4 H2 F25:1 Ip A0:0 C420jpeg\nFRAME\n\x04\x03\x02\x01\x08\x07\x06\x05\x0a\x09\x0c\x0b";
 /// The lengths of their header lines, and of each frame.
 pub(crate) const HEADER: usize = 27;
@@ -21,7 +21,7 @@ pub(crate) const FLIPPED_HEADER: usize = 39;
 
 pub(crate) const FRAME: usize = 18;
 
-fn words(alloc: Global, names: &[&str]) -> Result<Vec<String>, AllocError> {
+pub(crate) fn words(alloc: Global, names: &[&str]) -> Result<Vec<String>, AllocError> {
     let mut words = Vec::new(alloc);
     for word in names {
         words.push(String::from_str(alloc, word)?)?;

@@ -1,18 +1,18 @@
 //! The top call: the command from its words to its status.
-ghost use Rattle.std.specs.Prelude.{◌≡◌, ◌≢◌, map, None, string_bytes};
+ghost use Rattle.std.specs.Prelude.{◌≡◌, ◌≢◌, ◌⊎◌, map, Err, string_bytes};
 ghost use Rattle.std.specs.Option.{ForSome};
 ghost use Rattle.avgraph.specs.declared.TheConstants.{LIMIT};
 ghost use Rattle.avgraph.specs.declared.fault.Fault.{Fault};
 ghost use Rattle.avgraph.specs.declared.fault.Stop.{Stop};
-ghost use Rattle.avgraph.specs.Words.{words_of};
-ghost use Rattle.avgraph.specs.Faults.{stop_line};
+ghost use Rattle.avgraph.specs.Requests.{Request, IsRequest, IsRefused, IsRefusedAtOnce};
 ghost use Rattle.avgraph.specs.HeaderTexts.{BeginsHeader};
 ghost use Rattle.avgraph.specs.Answers.{IsNotYet};
-ghost use Rattle.avgraph.specs.Headline.{Reports, Prints, Acts, HasCause, IsQuiet, Done, Completes, Keeps, SaysStatus};
+ghost use Rattle.avgraph.specs.Headline.{Reports, Obeys, Acts, Refuses, HasCause, IsQuiet, Done, Completes, Keeps, SaysStatus};
 
 use crate::command::run_command;
 use crate::fault::{Fault, Stop, line, status};
 use crate::host_runs::say_all;
+use crate::request::read_filters;
 use crate::words::read_words;
 use av_host::Host;
 use std::alloc::Global;
@@ -34,9 +34,23 @@ fn report<H: Host>(host: &mut H, outcome: Result<(), Stop>) -> u8
     match outcome {
         Ok(()) => 0,
         Err(stop) => {
-            let _ = say_all(host, line(stop));
+            let text = line(stop);
+            let _ = say_all(host, text.as_str().as_bytes());
             status(stop)
         }
+    }
+}
+
+/// Obeys the words.
+fn obey<H: Host>(alloc: Global, words: &[String], host: &mut H) -> Result<(), Stop>
+    ensures { Obeys LIMIT (map string_bytes words.now) (H.world host.old) (H.world host.new) result }
+{
+    let Some((input, text, output)) = read_words(words) else {
+        return Err(Stop::Fault(Fault::NotYet));
+    };
+    match read_filters(alloc, text) {
+        Ok(filters) => run_command(alloc, host, &filters, input, output),
+        Err(stop) => Err(stop),
     }
 }
 
@@ -44,16 +58,14 @@ fn report<H: Host>(host: &mut H, outcome: Result<(), Stop>) -> u8
 fn act<H: Host>(alloc: Global, words: &[String], host: &mut H) -> u8
     ensures { Acts LIMIT (map string_bytes words.now) (H.world host.old) (H.world host.new) result }
 {
-    let outcome = match read_words(words) {
-        Some((input, output)) => run_command(alloc, host, input, output),
-        None => Err(Stop::Fault(Fault::NotYet)),
-    };
+    let outcome = obey(alloc, words, host);
     report(host, outcome)
 }
 
-/// Runs the command that the words name, and answers the program's status: 0 where all was done, 11 where an input was
-/// not opened or an output not created, 12 and 13 where a read or a write failed, 14 for want of memory, and 15 where
-/// the words or the input are outside of what the command can do today. After any status but 0 one line was said.
+/// Runs the command that the words name, and answers the program's status: 0 where all was done, 3 where the graph text
+/// has no reading, 10 where it passes a limit, 11 where an input was not opened or an output not created, 12 and 13
+/// where a read or a write failed, 14 for want of memory, and 15 where the words, the graph or the input are outside of
+/// what the command can do today. After any status but 0 one line was said.
 pub fn avgraph<R: Threads + Sync, H: Host, G: Gate>(
     _rt: &R,
     alloc: Global,
@@ -61,25 +73,32 @@ pub fn avgraph<R: Threads + Sync, H: Host, G: Gate>(
     host: &mut H,
     _gate: &G,
 ) -> u8
-    // Words of another form are answered with no call of the host but sayings.
-    ensures words { words_of (map string_bytes words.now) ≡ None
-        → (result ≡ 15) × Prints (H.world host.old) (H.world host.new) (stop_line (Stop.Fault Fault.NotYet)) }
+    // A fault that stands in the words or in the text is answered, or want of memory, and the host is asked for nothing
+    // but sayings. Words of another form and a text that is too long want no memory.
+    ensures refused { (fault : Fault) → IsRefused (map string_bytes words.now) fault → Refuses (H.world host.old) (H.world host.new) fault result }
+    ensures at_once { (fault : Fault) → IsRefusedAtOnce (map string_bytes words.now) fault
+        → Reports (H.world host.old) (H.world host.new) (Err (Stop.Fault fault)) result }
+    // A status of 3 or 10 names a fault that stands, and a status of 0 has a request.
+    ensures stands { (result ≡ 3) ⊎ (result ≡ 10) → (fault : Fault) × IsRefused (map string_bytes words.now) fault
+        × Reports (H.world host.old) (H.world host.new) (Err (Stop.Fault fault)) result }
+    ensures asked { result ≡ 0 → (request : Request) × IsRequest (map string_bytes words.now) request }
 
     // The output holds exactly the answer, and nothing is left of the input.
-    ensures done { result ≡ 0 → ForSome (words_of (map string_bytes words.now)) (λ names.
-        ForSome ((H.world host.old).held names.0) (Done LIMIT (H.world host.old) (H.world host.new) names.1)) }
-    ensures not_yet { result ≡ 15 → ForSome (words_of (map string_bytes words.now)) (λ names.
-        ForSome ((H.world host.old).held names.0) (IsNotYet LIMIT)) }
-    ensures complete { IsQuiet (H.world host.old).faults (H.world host.new).faults → ForSome (words_of (map string_bytes words.now)) (λ names.
-        ForSome ((H.world host.old).held names.0) (Completes LIMIT result)) }
+    ensures done { result ≡ 0 → (request : Request) → IsRequest (map string_bytes words.now) request →
+        ForSome ((H.world host.old).held request.input) (Done LIMIT request.filters (H.world host.old) (H.world host.new) request.output) }
+    ensures not_yet { result ≡ 15 → (request : Request) → IsRequest (map string_bytes words.now) request →
+        ForSome ((H.world host.old).held request.input) (IsNotYet LIMIT request.filters) }
+    ensures complete { IsQuiet (H.world host.old).faults (H.world host.new).faults → (request : Request) → IsRequest (map string_bytes words.now) request →
+        ForSome ((H.world host.old).held request.input) (Completes LIMIT request.filters result) }
 
     // A status of 11, 12 or 13 comes exactly where its count rose.
     ensures cause { HasCause (H.world host.old).faults (H.world host.new).faults result }
 
     // Nothing but the output changes, and it holds a beginning of the answer.
-    ensures kept { ForSome (words_of (map string_bytes words.now)) (λ names. Keeps (H.world host.old) (H.world host.new) names.0 names.1) }
-    ensures header_first { ForSome (words_of (map string_bytes words.now)) (λ names.
-        ForSome ((H.world host.old).held names.0) (λ bytes. ¬ BeginsHeader bytes → (H.world host.new).outputs ≡ (H.world host.old).outputs)) }
+    ensures kept { (request : Request) → IsRequest (map string_bytes words.now) request →
+        Keeps request.filters (H.world host.old) (H.world host.new) request.input request.output }
+    ensures header_first { (request : Request) → IsRequest (map string_bytes words.now) request →
+        ForSome ((H.world host.old).held request.input) (λ bytes. ¬ BeginsHeader bytes → (H.world host.new).outputs ≡ (H.world host.old).outputs) }
 
     ensures silent { result ≡ 0 → (H.world host.new).said ≡ (H.world host.old).said }
     ensures said { result ≢ 0 → SaysStatus (H.world host.old) (H.world host.new) result }

@@ -18,36 +18,29 @@ fn is_option(word: &str) -> bool
     matches!(word.as_bytes(), [b'-', ..])
 }
 
-/// Whether the five words name a flip of one file into another.
-fn is_command(flag: &str, input: &str, graph: &str, text: &str, output: &str) -> bool
-    ensures { result ≡ names_command flag.now input.now graph.now text.now output.now }
+/// Whether four of the five words name a file to be read and another to be written.
+fn is_command(flag: &str, input: &str, graph: &str, output: &str) -> bool
+    ensures { result ≡ names_command flag.now input.now graph.now output.now }
 {
     flag == "-i"
         && is_y4m(input)
         && graph == "-filter_complex"
-        && text == "hflip"
         && is_y4m(output)
         && !is_option(output)
         && input != output
 }
 
-/// The names of the input and of the output, where the words name a command that runs today.
-pub(crate) fn read_words(words: &[String]) -> Option<(&str, &str)>
-    ensures { option_map (λ p. (p.0.now, p.1.now)) result ≡ words_of (map string_bytes words.now) }
+/// The name of the input, the graph text and the name of the output, where the words are of the form that is read today.
+pub(crate) fn read_words(words: &[String]) -> Option<(&str, &str, &str)>
+    ensures { option_map (λ p. (p.0.now, p.1.now, p.2.now)) result ≡ words_of (map string_bytes words.now) }
 {
     if words.len() != 5 {
         return None;
     }
     let input = words[1].as_str();
     let output = words[4].as_str();
-    if is_command(
-        words[0].as_str(),
-        input,
-        words[2].as_str(),
-        words[3].as_str(),
-        output,
-    ) {
-        return Some((input, output));
+    if is_command(words[0].as_str(), input, words[2].as_str(), output) {
+        return Some((input, words[3].as_str(), output));
     }
     None
 }

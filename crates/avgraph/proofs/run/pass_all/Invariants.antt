@@ -1,7 +1,7 @@
 use Rattle.std.proofs.Common.{◌≡◌}
 use Rattle.avgraph.specs.declared.stages.Stage.TheVariants.{Headed}
 use Rattle.avgraph.proofs.RunLemmas.{SoFar}
-use Rattle.avgraph.proofs.run.flip_all.Given as goal
+use Rattle.avgraph.proofs.run.pass_all.Given as goal
 
 abbrev pub invariant-loop-frame : goal.invariant-loop-frame
 invariant-loop-frame g l = record {
@@ -9,7 +9,7 @@ invariant-loop-frame g l = record {
   stage : l.reader.stage ≡ Headed l.initial.writer.shape;
   writer : l.writer ≡ l.initial.writer;
   faults : (g.H.Host.world l.host).faults ≡ (g.H.Host.world l.initial.host).faults;
-  so_far : SoFar l.initial.writer.shape l.initial.reader.room (g.H.Host.world l.initial.host) (g.H.Host.world l.host) l.reader.id l.initial.writer.id l.reader.room l.reader.frames;
+  so_far : SoFar l.initial.writer.shape l.filters l.initial.reader.room (g.H.Host.world l.initial.host) (g.H.Host.world l.host) l.reader.id l.initial.writer.id l.reader.room l.reader.frames;
 }
 
 abbrev pub decreases-loop-frame : goal.decreases-loop-frame

@@ -1,0 +1,5 @@
+use Rattle.std.proofs.lemmas.Str.{IsCharBoundary-start}
+use Rattle.av_text.proofs.slow_reader.agrees.Goals as goal
+
+pub next_token-requires-clause-start : goal.next_token-requires-clause-start
+next_token-requires-clause-start c = IsCharBoundary-start c.args.text.now c.utf8.text

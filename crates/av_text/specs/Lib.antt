@@ -1,0 +1,10 @@
+pub mod Classes
+pub mod Tokens
+pub mod Faults
+pub mod Arguments
+pub mod Numbers
+pub mod Times
+pub mod Pieces
+pub mod Laws
+pub mod NumberParts
+pub mod SlowRows

@@ -1,0 +1,99 @@
+//! The lines and the statuses of stops.
+
+use crate::fault::{Fault, LimitKind, Stop, line, status};
+use av_text::TextKind;
+
+#[test]
+fn each_stop_has_its_line_and_its_status(rt: HostRuntime) {
+    for (stop, code, said) in [
+        (Stop::NoMemory, 14, "avgraph: NoMemory\n"),
+        (Stop::Fault(Fault::NotYet), 15, "avgraph: NotYet\n"),
+        (
+            Stop::Fault(Fault::OpenFault),
+            11,
+            "avgraph: OpenFault count=1\n",
+        ),
+        (
+            Stop::Fault(Fault::ReadFault),
+            12,
+            "avgraph: ReadFault count=1\n",
+        ),
+        (
+            Stop::Fault(Fault::WriteFault),
+            13,
+            "avgraph: WriteFault count=1\n",
+        ),
+    ] {
+        assert_eq!(rt; line(stop).as_str(), said);
+        assert_eq!(rt; status(stop), code, "{said}");
+    }
+}
+
+#[test]
+fn a_fault_of_the_text_tells_its_byte_and_its_kind(rt: HostRuntime) {
+    for (at, kind, said) in [
+        (0, TextKind::Stray, "avgraph: TextFault at=0 kind=Stray\n"),
+        (
+            2,
+            TextKind::UnclosedQuote,
+            "avgraph: TextFault at=2 kind=UnclosedQuote\n",
+        ),
+        (
+            10,
+            TextKind::LoneEscape,
+            "avgraph: TextFault at=10 kind=LoneEscape\n",
+        ),
+        (
+            65536,
+            TextKind::ExpectedName,
+            "avgraph: TextFault at=65536 kind=ExpectedName\n",
+        ),
+        (
+            4294967295,
+            TextKind::BadLabel,
+            "avgraph: TextFault at=4294967295 kind=BadLabel\n",
+        ),
+    ] {
+        let stop = Stop::Fault(Fault::TextFault { at, kind });
+        assert_eq!(rt; line(stop).as_str(), said);
+        assert_eq!(rt; status(stop), 3, "{said}");
+    }
+}
+
+#[test]
+fn a_limit_tells_its_quantity_and_its_numbers(rt: HostRuntime) {
+    for (kind, which, allowed, said) in [
+        (
+            LimitKind::Filters,
+            0,
+            256,
+            "avgraph: Limit kind=filters which=0 allowed=256\n",
+        ),
+        (
+            LimitKind::Text,
+            0,
+            65536,
+            "avgraph: Limit kind=text which=0 allowed=65536\n",
+        ),
+        (
+            LimitKind::Filters,
+            10,
+            0,
+            "avgraph: Limit kind=filters which=10 allowed=0\n",
+        ),
+        (
+            LimitKind::Filters,
+            4294967295,
+            18446744073709551615,
+            "avgraph: Limit kind=filters which=4294967295 allowed=18446744073709551615\n",
+        ),
+    ] {
+        let stop = Stop::Fault(Fault::Limit {
+            kind,
+            which,
+            allowed,
+        });
+        assert_eq!(rt; line(stop).as_str(), said);
+        assert_eq!(rt; status(stop), 10, "{said}");
+    }
+}

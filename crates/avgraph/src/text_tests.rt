@@ -1,0 +1,129 @@
+//! Graph texts by the top call, over a host in memory.
+
+use crate::tests::{FILE, FLIPPED, host_with, words};
+use crate::{OpenGate, avgraph};
+use std::alloc::{AllocError, Global};
+use std::process::Abort;
+use std::test::Fail;
+use std::thread::Threads;
+
+/// What the file is written as where its samples stay.
+const KEPT: &[u8] =
+    b"YUV4MPEG2 W4 H2 F25:1 Ip A0:0 C420jpeg\nFRAME\n\x01\x02\x03\x04\x05\x06\x07\x08\x09\x0a\x0b\x0c";
+
+/// The words of a command with this graph text.
+fn with_text(alloc: Global, text: &str) -> Result<Vec<String>, AllocError> {
+    words(alloc, &["-i", "a.y4m", "-filter_complex", text, "b.y4m"])
+}
+
+/// So many copies of a piece, and an end.
+fn repeated(alloc: Global, piece: &str, count: usize, end: &str) -> Result<String, AllocError> {
+    let mut text = String::new(alloc);
+    for _ in 0..count {
+        text.push_str(piece)?;
+    }
+    text.push_str(end)?;
+    Ok(text)
+}
+
+#[test]
+fn a_chain_of_filters_is_passed_in_turn(rt: HostRuntime) -> Result<(), Fail> {
+    for (text, output) in [
+        ("hflip", FLIPPED),
+        ("null", KEPT),
+        (" hflip , null,hflip@b ", KEPT),
+        ("sws_flags=bilinear;\thflip@a,hflip\n,hflip", FLIPPED),
+        ("null=", KEPT),
+    ] {
+        let words = with_text(rt.alloc(), text)?;
+        let mut host = host_with(&rt, rt.alloc(), FILE);
+        assert_eq!(rt; avgraph(&rt, rt.alloc(), &words, &mut host, &OpenGate), 0);
+        assert_eq!(rt; host.output("b.y4m"), Some(output));
+        assert_eq!(rt; host.said(), b"".as_slice());
+    }
+    Ok(())
+}
+
+/// Runs a command with this text, of which only the first call of the host may succeed; its status, and whether just
+/// this line was said and no output created.
+fn refusal(
+    rt: &(impl Abort + Threads + Sync),
+    alloc: Global,
+    text: &str,
+    line: &str,
+) -> Result<(u8, bool), AllocError> {
+    let words = with_text(alloc, text)?;
+    let mut host = host_with(rt, alloc, FILE);
+    host.fail_call(alloc, 1).ok().expect(rt, "a call");
+    let status = avgraph(rt, alloc, &words, &mut host, &OpenGate);
+    let said = host.said() == line.as_bytes();
+    Ok((status, said && host.output("b.y4m").is_none()))
+}
+
+#[test]
+fn a_text_is_refused_with_its_line_before_any_file_is_opened(rt: HostRuntime) -> Result<(), Fail> {
+    for (text, line) in [
+        ("a='b", "avgraph: TextFault at=2 kind=UnclosedQuote\n"),
+        ("null,", "avgraph: TextFault at=5 kind=ExpectedName\n"),
+        ("null]", "avgraph: TextFault at=4 kind=Stray\n"),
+        ("[]null", "avgraph: TextFault at=0 kind=BadLabel\n"),
+        (r"a=b\", "avgraph: TextFault at=3 kind=LoneEscape\n"),
+        ("", "avgraph: TextFault at=0 kind=ExpectedName\n"),
+    ] {
+        let refused = refusal(&rt, rt.alloc(), text, line)?;
+        assert_eq!(rt; refused, (3, true));
+    }
+    Ok(())
+}
+
+#[test]
+fn calls_that_do_not_run_today_are_refused(rt: HostRuntime) -> Result<(), Fail> {
+    for text in [
+        "hflip;null",
+        "hflip=1",
+        "null=:",
+        "[a]null",
+        "null,hflip[a]",
+        "null,vflip",
+        r"a='b\:c'",
+    ] {
+        let refused = refusal(&rt, rt.alloc(), text, "avgraph: NotYet\n")?;
+        assert_eq!(rt; refused, (15, true));
+    }
+    Ok(())
+}
+
+/// The lines of the two limits.
+const TOO_MANY: &str = "avgraph: Limit kind=filters which=0 allowed=256\n";
+
+const TOO_LONG: &str = "avgraph: Limit kind=text which=0 allowed=65536\n";
+
+#[test]
+fn a_text_passes_its_limits_by_one(rt: HostRuntime) -> Result<(), Fail> {
+    for (piece, count, end, status, line) in [
+        ("null,", 255, "null", 0, ""),
+        ("null,", 256, "null", 10, TOO_MANY),
+        (" ", 65_532, "null", 0, ""),
+        (" ", 65_533, "null", 10, TOO_LONG),
+        // The fault of a text comes before the limit of filters, and the limit of bytes before the fault.
+        (
+            "null,",
+            256,
+            "null]",
+            3,
+            "avgraph: TextFault at=1284 kind=Stray\n",
+        ),
+        ("]", 65_537, "", 10, TOO_LONG),
+    ] {
+        let text = repeated(rt.alloc(), piece, count, end)?;
+        let words = with_text(rt.alloc(), text.as_str())?;
+        let mut host = host_with(&rt, rt.alloc(), FILE);
+        assert_eq!(rt;
+            avgraph(&rt, rt.alloc(), &words, &mut host, &OpenGate),
+            status
+        );
+        assert_eq!(rt; host.said(), line.as_bytes());
+        assert_eq!(rt; host.output("b.y4m").is_some(), status == 0);
+    }
+    Ok(())
+}

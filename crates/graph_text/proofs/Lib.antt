@@ -1,0 +1,4 @@
+mod Places
+mod LabelLemmas
+mod PartLemmas
+pub mod GraphLemmas

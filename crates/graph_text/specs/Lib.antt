@@ -1,0 +1,5 @@
+pub mod Parts
+pub mod Grammar
+pub mod Graphs
+pub mod Laws
+pub mod Reading
