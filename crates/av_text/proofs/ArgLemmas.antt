@@ -37,7 +37,7 @@ named_front {text} {n} {b} x = (
 
 -- ---- one argument
 
-token_front : {specials text value rest : List ℕ} → IsToken specials text value rest → (front : List ℕ) × (text ≡ front ++ rest)
+pub token_front : {specials text value rest : List ℕ} → IsToken specials text value rest → (front : List ℕ) × (text ≡ front ++ rest)
 token_front {specials} {text} {value} {rest} t =
     let r = t.is_row in
     (r.lead ++ flat_map source t.row, r.begins.text_is ∙ sym (append_assoc r.lead (flat_map source t.row) rest))
@@ -194,7 +194,7 @@ only_mark : (c : ℕ) → Contains (58 ∷ []) c → c ≡ 58
 only_mark c (zero, h, e) = sym e
 only_mark c (suc k, h, e) = absurd (omega arith)
 
-mark_ends : (rest : List ℕ) → Ends (58 ∷ []) rest → (rest ≡ []) ⊎ ((more : List ℕ) × (rest ≡ 58 ∷ more))
+pub mark_ends : (rest : List ℕ) → Ends (58 ∷ []) rest → (rest ≡ []) ⊎ ((more : List ℕ) × (rest ≡ 58 ∷ more))
 mark_ends [] h = inl refl
 mark_ends (c ∷ more) h = inr (more, ap (λ (b : ℕ). b ∷ more) (only_mark c h.2))
 

@@ -1,8 +1,7 @@
-//! Texts have one reading at most.
+//! Texts have one reading or one fault.
 ghost use Rattle.av_text.specs.Laws.{TokensHaveOneReading, ArgsHaveOneReading};
 
-/// A text begins with one token at most and is one list of arguments at most, where it has a fault it is none, and it
-/// has one fault at most.
+/// Every text begins with one token or has one fault, and never both; and so for lists of arguments.
 pub fn texts_have_one_reading()
     ensures tokens { TokensHaveOneReading }
     ensures args { ArgsHaveOneReading }

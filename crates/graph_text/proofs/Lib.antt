@@ -1,4 +1,5 @@
 mod Places
 mod LabelLemmas
 mod PartLemmas
+mod TotalLemmas
 pub mod GraphLemmas

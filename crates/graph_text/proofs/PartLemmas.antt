@@ -45,7 +45,7 @@ in_turn {X = X} {Y = Y} {P} {Q} {F} {G} a b = record { same = same; fault = faul
   apart {s = s} {k = k} p (inr q) = b.apart p.2 (subst (λ (m : List ℕ). G m k s) (a.same q.2 p.1).1 q.3)
 
 -- a text that begins with a mark doesn't lack it
-lacks_not : (mark : ℕ) {text rest : List ℕ} → text ≡ mark ∷ rest → Lacks mark text → ⊥
+pub lacks_not : (mark : ℕ) {text rest : List ℕ} → text ≡ mark ∷ rest → Lacks mark text → ⊥
 lacks_not mark {text} {rest} e h = let yes = eq-eqb mark mark refl in let no : (mark == mark) ≡ false = subst (Lacks mark) e h in cc
 
 -- ---- labels
@@ -174,7 +174,7 @@ arguments_law = record {
 
 -- ---- filters
 
-abbrev FilterParts : List ℕ → List Text × (Text × (Option Text × (List Arg × List Text))) → List ℕ → Type 0
+abbrev pub FilterParts : List ℕ → List Text × (Text × (Option Text × (List Arg × List Text))) → List ℕ → Type 0
 FilterParts = Pair AreLabels (Pair IsName (Pair IsInstance (Pair AreArguments AreLabels)))
 
 filter_law : Lawful FilterParts NoFilter

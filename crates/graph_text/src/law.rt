@@ -1,7 +1,7 @@
-//! Texts have one reading at most.
+//! Texts have one reading or one fault.
 ghost use Rattle.graph_text.specs.Laws.{GraphsHaveOneReading};
 
-/// A text says one list of calls at most, where it has a fault it says none, and it has one fault at most.
+/// Every text says one list of calls or has one fault, and never both.
 pub fn graphs_have_one_reading()
     ensures { GraphsHaveOneReading }
 {}
