@@ -1,0 +1,4 @@
+mod OrderLemmas
+mod ReachLemmas
+mod ArrangeLemmas
+mod BindLemmas

@@ -1,0 +1,4 @@
+pub mod Orders
+pub mod Arranging
+pub mod Bindings
+pub mod Places
