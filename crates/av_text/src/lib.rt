@@ -13,7 +13,7 @@ pub use arguments::{Arg, split_args};
 pub use classes::{Class, split_run};
 pub use fault::{TextError, TextFault, TextKind};
 pub use law::texts_have_one_reading;
-pub use numbers::{read_ratio, read_whole};
+pub use numbers::{read_digits, read_ratio, read_whole};
 pub use times::read_time;
 pub use token::next_token;
 

@@ -28,6 +28,16 @@ pub(crate) fn number(text: &[u8], least: usize, most: usize) -> Option<u64>
     Some(value)
 }
 
+/// The number of a text that is `least` to `most` decimal digits, of which there may be 18. None elsewhere.
+pub fn read_digits(text: &str, least: usize, most: usize) -> Option<u64>
+    requires { most ≤ 18 }
+    ensures number { IfSome result (IsNumber least most text.now) }
+    ensures only { (n : ℕ) → IsNumber least most text.now n → result ≡ Some n }
+    ensures fits { IfSome result (λ n. n < 10 ^ most) }
+{
+    number(text.as_bytes(), least, most)
+}
+
 /// Whether a text begins with a `-`, and the text without it.
 pub(crate) fn split_sign(text: &[u8]) -> (bool, &[u8])
     ensures { IsUnsigned text.now result.0 result.1.now }

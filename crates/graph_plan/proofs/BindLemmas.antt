@@ -1,61 +1,22 @@
 -- Which output file takes which open output pad.
-use Rattle.std.proofs.Common.{◌≡◌, ◌<◌, ◌≤◌, ◌+◌, ◌++◌, ◌⊎◌, ℕ, suc, zero, List, [], ◌∷◌, Option, Some, None, Ok, Err, Result, length, get_or, refl, sym, ◌∙◌, ap, subst, inl, inr, arith, add-one, below_more}
+use Rattle.std.proofs.Common.{◌≡◌, ◌<◌, ◌≤◌, ◌+◌, ◌++◌, ℕ, suc, zero, List, [], ◌∷◌, Option, Some, None, Ok, Err, Result, length, get_or, refl, sym, ◌∙◌, ap, subst, inl, inr, arith, add-one, below_more}
 use Rattle.std.specs.Prelude.{IfOk}
 use Rattle.std.specs.List.{slice_get, Contains}
-use Rattle.std.proofs.lemmas.Bool.{cases_lt}
 use Rattle.std.proofs.lemmas.List.{length_push}
-use Rattle.std.proofs.lemmas.Option.{same_Some, slice_get_within, slice_get_read, slice_get-get_or, get_or_from_slice_get}
+use Rattle.std.proofs.lemmas.Option.{same_Some, slice_get_within, slice_get_read, slice_get-get_or}
 use Rattle.graph_plan.specs.declared.plan.Edge.{Edge}
 use Rattle.graph_plan.specs.declared.plan.OpenOut.{OpenOut}
 use Rattle.graph_plan.specs.declared.plan.OutputFile.{OutputFile}
 use Rattle.graph_plan.specs.declared.plan.DraftPlan.{DraftPlan}
 use Rattle.graph_plan.specs.declared.plan.Plan.{Plan}
 use Rattle.graph_plan.specs.declared.plan.PlanFault.{PlanFault}
-use Rattle.graph_plan.specs.declared.plan.PlanFault.TheVariants.{NoSuchOutput, Unmapped, WrongKind, Cycle}
+use Rattle.graph_plan.specs.declared.plan.PlanFault.TheVariants.{NoSuchOutput, Unmapped, WrongKind}
 use Rattle.graph_plan.specs.declared.plan.PlanError.{PlanError}
 use Rattle.graph_plan.specs.declared.plan.PlanError.TheVariants.{Fault, NoMemory}
-use Rattle.graph_plan.specs.Bindings.{Name, name_of, number_behind, names, pad_names, file_names, IsLeast, IsPadOf, Takes, FindsNone, IsUnmapped, CannotTake, TakesWrong, IsBindFault, link_to, AreOutputs, IsBound, IfFault, Gives, Refuses}
+use Rattle.graph_plan.specs.Bindings.{Name, name_of, number_behind, names, pad_names, file_names, IsPadOf, Takes, FindsNone, IsUnmapped, CannotTake, TakesWrong, IsBindFault, Misses, Leaves, Mixes, link_to_output, AreOutputs, IsBound, IfFault, Gives, Refuses}
+use Rattle.graph_plan.specs.Least.{IsLeast}
 use Rattle.graph_plan.specs.Places.{AreFound, IsLeft, AreLinks}
-
--- ---- elements by their places
-
-same_gets : {X : Type 0} (xs ys : List X) → length xs ≡ length ys → ((k : ℕ) (x : X) → slice_get xs k ≡ Some x → slice_get ys k ≡ Some x) → xs ≡ ys
-same_gets [] [] e f = refl
-same_gets [] (y ∷ ys) e f = absurd (omega arith)
-same_gets (x ∷ xs) [] e f = absurd (omega arith)
-same_gets {X} (x ∷ xs) (y ∷ ys) e f =
-    let first : y ≡ x = same_Some y x (f 0 x refl) in
-    let rest : xs ≡ ys = same_gets xs ys (omega arith) (λ k z g. f (suc k) z g) in
-    cc
-
--- the element of a list that is one longer is one of the list, or the last
-pushed_at : {X : Type 0} (xs : List X) (y : X) (k : ℕ) (x : X) → slice_get (xs ++ y ∷ []) k ≡ Some x → (slice_get xs k ≡ Some x) ⊎ ((k ≡ length xs) × (x ≡ y))
-pushed_at [] y zero x e = inr (refl, sym (same_Some y x e))
-pushed_at [] y (suc k) x e = absurd (cc)
-pushed_at (z ∷ xs) y zero x e = inl e
-pushed_at (z ∷ xs) y (suc k) x e = elim (pushed_at xs y k x e) [ inl h ↦ inl h | inr h ↦ inr (ap suc h.0, h.1) ]
-
-get_within : {X : Type 0} (xs : List X) (k : ℕ) → k < length xs → (x : X) × (slice_get xs k ≡ Some x)
-get_within [] k h = absurd (omega arith)
-get_within (x ∷ xs) zero h = (x, refl)
-get_within (x ∷ xs) (suc k) h = get_within xs k (omega arith)
-
-contained : {X : Type 0} (xs : List X) (k : ℕ) (x : X) → slice_get xs k ≡ Some x → Contains xs x
-contained xs k x e = (k, slice_get_within xs k x e, get_or_from_slice_get xs k x x e)
-
-place_of : {X : Type 0} (xs : List X) (x : X) → Contains xs x → (k : ℕ) × (k < length xs) × (slice_get xs k ≡ Some x)
-place_of xs x h = (h.0, h.1, slice_get_read xs (length xs) h.0 x refl h.1 (sym h.2))
-
--- ---- the least
-
-pub least_same : {P : ℕ → Type 0} {a b : ℕ} → IsLeast P a → IsLeast P b → a ≡ b
-least_same {P} {a} {b} p q = elim (cases_lt a b) [
-  | inl h ↦ absurd (q.least a h p.holds)
-  | inr h ↦ elim (cases_lt b a) [ inl g ↦ absurd (p.least b g q.holds) | inr g ↦ omega arith ]
-]
-
-pub least_along : {P Q : ℕ → Type 0} {a : ℕ} → ((k : ℕ) → P k → Q k) → ((k : ℕ) → Q k → P k) → IsLeast P a → IsLeast Q a
-least_along {P} {Q} {a} f g h = record { holds = f a h.holds; least = λ other lt q. h.least other lt (g other q) }
+use Rattle.graph_plan.proofs.ListLemmas.{same_gets, pushed_at, get_within, contained, place_of, least_same, least_along}
 
 -- ---- names
 
@@ -88,15 +49,15 @@ number_behind-le None n = omega arith
 
 -- ---- what takes what
 
-takes_called : {opens : List OpenOut} {files : List OutputFile} {k o : ℕ} (name : Name) → slice_get (file_names files) k ≡ Some name → Takes opens files k o → IsPadOf opens name o
+pub takes_called : {opens : List OpenOut} {files : List OutputFile} {k o : ℕ} (name : Name) → slice_get (file_names files) k ≡ Some name → Takes opens files k o → IsPadOf opens name o
 takes_called {opens} {files} {k} {o} name e t =
     let same : t.name ≡ name = same_Some t.name name (sym t.is_file ∙ e) in
     let P : Name → Type 0 = λ n. IsPadOf opens n o in subst P same t.is_pad
 
-takes_same : {opens : List OpenOut} {files : List OutputFile} {k o p : ℕ} → Takes opens files k o → Takes opens files k p → o ≡ p
+pub takes_same : {opens : List OpenOut} {files : List OutputFile} {k o p : ℕ} → Takes opens files k o → Takes opens files k p → o ≡ p
 takes_same t u = least_same t.is_pad (takes_called t.name t.is_file u)
 
-takes_within : {opens : List OpenOut} {files : List OutputFile} {k o : ℕ} → Takes opens files k o → (k < length files) × (o < length opens)
+pub takes_within : {opens : List OpenOut} {files : List OutputFile} {k o : ℕ} → Takes opens files k o → (k < length files) × (o < length opens)
 takes_within {opens} {files} {k} {o} t = (
   subst (λ (n : ℕ). k < n) (length-names (λ (f : OutputFile). f.label) 0 files) (slice_get_within (file_names files) k t.name t.is_file),
   subst (λ (n : ℕ). o < n) (length-names (λ (p : OpenOut). p.label) 0 opens) (slice_get_within (pad_names opens) o t.name t.is_pad.holds),
@@ -104,7 +65,7 @@ takes_within {opens} {files} {k} {o} t = (
 
 -- ---- one plan, one fault
 
-wrong_fits : {opens : List OpenOut} {files : List OutputFile} {k o : ℕ} {file : OutputFile} {p : OpenOut} → Takes opens files k o → slice_get files k ≡ Some file → slice_get opens o ≡ Some p
+pub wrong_fits : {opens : List OpenOut} {files : List OutputFile} {k o : ℕ} {file : OutputFile} {p : OpenOut} → Takes opens files k o → slice_get files k ≡ Some file → slice_get opens o ≡ Some p
     → TakesWrong opens files k → CannotTake file.ending p.media
 wrong_fits {opens} {files} {k} {o} {file} {p} t f g w =
     let place : w.place ≡ o = takes_same w.takes t in
@@ -121,7 +82,7 @@ outputs_same {opens} {files} a b p q = same_gets a b (p.each ∙ sym q.each) (λ
     let g = q.are k other.0 other.1 in
     let place : h.0 ≡ g.0 = takes_same h.1 g.1 in
     let pad : h.2.0 ≡ g.2.0 = same_Some h.2.0 g.2.0 (sym h.2.1 ∙ (ap (slice_get opens) place ∙ g.2.1)) in
-    let link : x ≡ other.0 = h.2.2 ∙ (ap (λ (z : OpenOut). link_to z k) pad ∙ sym g.2.2) in
+    let link : x ≡ other.0 = h.2.2 ∙ (ap (λ (z : OpenOut). link_to_output z k) pad ∙ sym g.2.2) in
     other.1 ∙ ap (λ (z : Edge). Some z) (sym link))
 
 pub one_plan : (draft : DraftPlan) (files : List OutputFile) (a b : Plan) → IsBound draft files a → IsBound draft files b → a ≡ b
@@ -133,30 +94,25 @@ one_plan draft files a b p q =
     with_links ∙ ap (λ (z : List ℕ). record { links = b.links; order = z }) order
 
 pub one_fault : (opens : List OpenOut) (files : List OutputFile) (f g : PlanFault) → IsBindFault opens files f → IsBindFault opens files g → f ≡ g
-one_fault opens files (NoSuchOutput a) (NoSuchOutput b) p q = ap NoSuchOutput (least_same p q)
-one_fault opens files (NoSuchOutput a) (Unmapped filter pad) p q = absurd (q.0 a p.holds)
-one_fault opens files (NoSuchOutput a) (WrongKind b) p q = absurd (q.0 a p.holds)
-one_fault opens files (NoSuchOutput a) (Cycle b) p q = absurd q
-one_fault opens files (Unmapped filter pad) (NoSuchOutput b) p q = absurd (p.0 b q.holds)
-one_fault opens files (Unmapped filter pad) (Unmapped other out) p q =
-    let place : p.1.0 ≡ q.1.0 = least_same p.1.1 q.1.1 in
-    let same : p.1.2.0 ≡ q.1.2.0 = same_Some p.1.2.0 q.1.2.0 (sym p.1.2.1 ∙ (ap (slice_get opens) place ∙ q.1.2.1)) in
-    let filters : filter ≡ other = sym p.1.2.2 ∙ (ap (λ (z : OpenOut). z.filter) same ∙ q.1.2.2) in
-    let pads : pad ≡ out = sym p.1.2.3 ∙ (ap (λ (z : OpenOut). z.pad) same ∙ q.1.2.3) in
+one_fault opens files _ _ (Misses a p) (Misses b q) = ap NoSuchOutput (least_same p q)
+one_fault opens files _ _ (Misses a p) (Leaves filter pad none left) = absurd (none a p.holds)
+one_fault opens files _ _ (Misses a p) (Mixes b none all wrong) = absurd (none a p.holds)
+one_fault opens files _ _ (Leaves filter pad none left) (Misses b q) = absurd (none b q.holds)
+one_fault opens files _ _ (Leaves filter pad none left) (Leaves other out nor more) =
+    let place : left.0 ≡ more.0 = least_same left.1 more.1 in
+    let same : left.2.0 ≡ more.2.0 = same_Some left.2.0 more.2.0 (sym left.2.1 ∙ (ap (slice_get opens) place ∙ more.2.1)) in
+    let filters : filter ≡ other = sym left.2.2 ∙ (ap (λ (z : OpenOut). z.filter) same ∙ more.2.2) in
+    let pads : pad ≡ out = sym left.2.3 ∙ (ap (λ (z : OpenOut). z.pad) same ∙ more.2.3) in
     ap (λ (z : ℕ). Unmapped z pad) filters ∙ ap (λ (z : ℕ). Unmapped other z) pads
-one_fault opens files (Unmapped filter pad) (WrongKind b) p q = absurd (q.1 p.1.0 p.1.1.holds)
-one_fault opens files (Unmapped filter pad) (Cycle b) p q = absurd q
-one_fault opens files (WrongKind a) (NoSuchOutput b) p q = absurd (p.0 b q.holds)
-one_fault opens files (WrongKind a) (Unmapped filter pad) p q = absurd (p.1 q.1.0 q.1.1.holds)
-one_fault opens files (WrongKind a) (WrongKind b) p q = ap WrongKind (least_same p.2 q.2)
-one_fault opens files (WrongKind a) (Cycle b) p q = absurd q
-one_fault opens files (Cycle a) g p q = absurd p
+one_fault opens files _ _ (Leaves filter pad none left) (Mixes b nor all wrong) = absurd (all left.0 left.1.holds)
+one_fault opens files _ _ (Mixes a none all wrong) (Misses b q) = absurd (none b q.holds)
+one_fault opens files _ _ (Mixes a none all wrong) (Leaves filter pad nor left) = absurd (all left.0 left.1.holds)
+one_fault opens files _ _ (Mixes a none all wrong) (Mixes b nor each other) = ap WrongKind (least_same wrong other)
 
 pub not_both : (draft : DraftPlan) (files : List OutputFile) (plan : Plan) (f : PlanFault) → IsBound draft files plan → IsBindFault draft.opens files f → ⊥
-not_both draft files plan (NoSuchOutput a) p q = p.all_find a q.holds
-not_both draft files plan (Unmapped filter pad) p q = p.all_mapped q.1.0 q.1.1.holds
-not_both draft files plan (WrongKind a) p q = p.all_fit a q.2.holds
-not_both draft files plan (Cycle a) p q = q
+not_both draft files plan _ p (Misses a q) = p.all_find a q.holds
+not_both draft files plan _ p (Leaves filter pad none left) = p.all_mapped left.0 left.1.holds
+not_both draft files plan _ p (Mixes a none all wrong) = p.all_fit a wrong.holds
 
 -- what a call answers, where there is a plan, and where there is a fault
 pub binds : (draft : DraftPlan) (files : List OutputFile) (r : Result Plan PlanError) → IfOk r (IsBound draft files) → IfFault r (IsBindFault draft.opens files) → (plan : Plan) → IsBound draft files plan → Gives plan r
@@ -230,10 +186,10 @@ found_more {pads} {files} {places} k number place f found each lt e numbered is 
 
 -- a file has no pad to take, or one that an earlier file takes
 pub file_stuck : {pads : List OpenOut} {files : List OutputFile} {places : List ℕ} (k number : ℕ) (f : OutputFile) → AreFound pads files places → length places ≡ k → k < length files
-    → f ≡ get_or files k f → number ≡ number_at (λ (x : OutputFile). x.label) 0 files k → ((o : ℕ) → IsPadOf pads (name_of f.label number) o → Contains places o) → IsLeast (FindsNone pads files) k
+    → f ≡ get_or files k f → number ≡ number_at (λ (x : OutputFile). x.label) 0 files k → ((o : ℕ) → IsPadOf pads (name_of f.label number) o → Contains places o) → IsBindFault pads files (NoSuchOutput k)
 file_stuck {pads} {files} {places} k number f found each lt e numbered none =
     let called = file_called files k number f lt e numbered in
-    record {
+    Misses k (record {
       holds = (
         lt,
         λ o t.
@@ -241,7 +197,7 @@ file_stuck {pads} {files} {places} k number f found each lt e numbered none =
             (at.0, omega (arith, each, at.1), found.takes at.0 o at.2),
       );
       least = λ other less. found.finds other (omega (arith, each));
-    }
+    })
 
 -- ---- all files have a pad
 
@@ -262,9 +218,10 @@ unmapped_left {pads} {files} {places} found o h = (h.0, λ c. let at = place_of 
 
 pub pad_left : {pads : List OpenOut} {files : List OutputFile} {places : List ℕ} (place : ℕ) (p : OpenOut) → AreFound pads files places → length places ≡ length files → IsLeast (IsLeft places (length pads)) place
     → p ≡ get_or pads place p → IsBindFault pads files (Unmapped p.filter p.pad)
-pad_left {pads} {files} {places} place p found each left e = (
-  all_find found each,
-  (place, least_along (left_unmapped found each) (unmapped_left found) left, (p, slice_get_read pads (length pads) place p refl left.holds.0 e, refl, refl)),
+pad_left {pads} {files} {places} place p found each left e = Leaves p.filter p.pad (all_find found each) (
+  place,
+  least_along (left_unmapped found each) (unmapped_left found) left,
+  (p, slice_get_read pads (length pads) place p refl left.holds.0 e, refl, refl),
 )
 
 pub all_mapped : {pads : List OpenOut} {files : List OutputFile} {places : List ℕ} → AreFound pads files places → ((o : ℕ) → o < length pads → Contains places o) → (o : ℕ) → ¬ IsUnmapped pads files o
@@ -310,14 +267,14 @@ all_fit k all none other w = none other (let lt = (takes_within w.takes).0 in om
 -- ---- links
 
 pub link_more : {pads : List OpenOut} {places : List ℕ} {links : List Edge} (k : ℕ) (p : OpenOut) → AreLinks pads places links → length links ≡ k → k < length places → get_or places k 0 < length pads
-    → p ≡ get_or pads (get_or places k 0) p → AreLinks pads places (links ++ link_to p k ∷ [])
+    → p ≡ get_or pads (get_or places k 0) p → AreLinks pads places (links ++ link_to_output p k ∷ [])
 link_more {pads} {places} {links} k p all each lt within e = record {
-  are = λ j link g. elim (pushed_at links (link_to p k) j link g) [
+  are = λ j link g. elim (pushed_at links (link_to_output p k) j link g) [
     | inl h ↦ all.are j link h
     | inr h ↦ (let j_is : j ≡ k = h.0 ∙ each in (
       get_or places k 0,
       ap (slice_get places) j_is ∙ slice_get-get_or places k 0 lt,
-      (p, slice_get_read pads (length pads) (get_or places k 0) p refl within e, h.1 ∙ ap (link_to p) (sym j_is)),
+      (p, slice_get_read pads (length pads) (get_or places k 0) p refl within e, h.1 ∙ ap (link_to_output p) (sym j_is)),
     ))
   ];
 }

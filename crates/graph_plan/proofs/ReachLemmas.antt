@@ -1,166 +1,210 @@
--- Marks on filters over links.
-use Rattle.std.proofs.Common.{◌≡◌, ◌<◌, ◌≤◌, ◌+◌, ◌⊎◌, ℕ, List, [], Bool, true, false, not, length, take, set, get_or, cond, refl, sym, ◌∙◌, ap, subst, arith, inl, inr}
-use Rattle.std.specs.List.{Contains, count_by}
-use Rattle.std.proofs.lemmas.Bool.{cases_eq, cases_lt}
-use Rattle.std.proofs.lemmas.List.{get_or-set_same, get_or-set_other, take_all, take_more}
-use Rattle.std.proofs.lemmas.List.Elements.{Contains-push_cases, Contains-get_or}
+-- Walks from a filter over rows, with marks and a stack.
+use Rattle.std.proofs.Common.{◌≡◌, ◌<◌, ◌+◌, ◌⊎◌, ℕ, List, [], ◌∷◌, ◌++◌, Bool, true, false, Some, Vec, Global, not, cond, length, set, get_or, refl, sym, subst, arith, inl, inr}
+use Rattle.std.specs.List.{slice_get, Contains, count_by}
+use Rattle.std.proofs.lemmas.Bool.{cases_eq, cases_lt, cases_Bool}
+use Rattle.std.proofs.lemmas.List.{get_or-set_same, get_or-set_other, get_or_past}
+use Rattle.std.proofs.lemmas.List.Elements.{Contains-push, Contains-push_cases, Contains-append_left}
 use Rattle.std.proofs.lemmas.List.Sums.{sum_by-set}
-use Rattle.graph_plan.specs.declared.plan.Edge.{Edge}
-use Rattle.graph_plan.specs.Orders.{Feeds, LeadsTo, Directly, Through, Reaches, AreBelow}
-use Rattle.graph_plan.specs.Arranging.{Joins, IsBelow, IsBusy, Leads, AreClosed}
-use Rattle.graph_plan.proofs.OrderLemmas.{leads_on, leads_below}
+use Rattle.graph_plan.specs.Orders.{LeadsTo, Directly, Through, Reaches}
+use Rattle.graph_plan.specs.Arranging.{Has, IsMarked, AreMarked}
+use Rattle.graph_plan.proofs.OrderLemmas.{leads_on}
+use Rattle.graph_plan.proofs.RowLemmas.{in_row}
 
--- ---- links
+-- ---- marks
 
-pub feeds_none : (giver taker : ℕ) → Feeds [] giver taker → ⊥
-feeds_none giver taker feeds = let k : feeds.2.0 < 0 = feeds.2.1 in omega arith
-
--- one more link
-pub feeds_more : (links : List Edge) (index : ℕ) (d : Edge) (giver taker : ℕ) → index < length links
-    → Feeds (take (index + 1) links) giver taker → Feeds (take index links) giver taker ⊎ Joins (get_or links index d) giver taker
-feeds_more links index d giver taker within feeds =
-    let here = rw (take_more links index d within) at feeds.2 in
-    elim (Contains-push_cases (take index links) (get_or links index d) _ here) [
-      | inl old ↦ inl (feeds.0, feeds.1, old)
-      | inr same ↦ inr (feeds.0, feeds.1, same)
-    ]
-
--- a link of them
-pub feeds_at : (links : List Edge) (index : ℕ) (d : Edge) (giver taker : ℕ) → index < length links → Joins (get_or links index d) giver taker → Feeds links giver taker
-feeds_at links index d giver taker within joins = (
-  joins.0,
-  joins.1,
-  (let P : Edge → Type 0 = λ x. Contains links x in subst P joins.2 (Contains-get_or links index d within)),
-)
-
-pub joins_below : (links : List Edge) (count index : ℕ) (d : Edge) → AreBelow links count → index < length links
-    → IsBelow (get_or links index d) count
-joins_below links count index d below within giver taker joins =
-    let feeds = feeds_at links index d giver taker within joins in
-    (below.givers giver taker feeds, below.takers giver taker feeds)
-
--- a link has one taker
-joins_once : (link : Edge) (a b x y : ℕ) → Joins link a x → Joins link b y → x ≡ y
-joins_once link a b x y p q =
-    let e = ap (λ (l : Edge). l.to) (sym p.2 ∙ q.2) in
-    cc
-
-pub below_more : (links : List Edge) (index : ℕ) (d : Edge) (count : ℕ) → index < length links → AreBelow (take index links) count
-    → IsBelow (get_or links index d) count → AreBelow (take (index + 1) links) count
-below_more links index d count within so_far here = record {
-  givers = λ giver taker feeds. elim (feeds_more links index d giver taker within feeds) [
-    | inl old ↦ so_far.givers giver taker old
-    | inr joins ↦ (here giver taker joins).0
-  ];
-  takers = λ giver taker feeds. elim (feeds_more links index d giver taker within feeds) [
-    | inl old ↦ so_far.takers giver taker old
-    | inr joins ↦ (here giver taker joins).1
-  ];
-}
-
--- ---- what a filter reaches
-
-pub closed_more : (links : List Edge) (index : ℕ) (d : Edge) (filter : ℕ) (marks : List Bool) → index < length links → AreClosed (Feeds (take index links)) filter marks
-    → AreClosed (Joins (get_or links index d)) filter marks → AreClosed (Feeds (take (index + 1) links)) filter marks
-closed_more links index d filter marks within so_far here giver taker feeds leads = elim (feeds_more links index d giver taker within feeds) [
-  | inl old ↦ so_far giver taker old leads
-  | inr joins ↦ here giver taker joins leads
+-- a filter past the marks isn't marked
+marked_within : (marks : List Bool) (filter : ℕ) → IsMarked marks filter → filter < length marks
+marked_within marks filter is = elim (cases_lt filter (length marks)) [
+  | inl low ↦ low
+  | inr past ↦ absurd (let no = get_or_past marks filter false past in cc)
 ]
 
--- what is marked is reached, and the filter itself isn't marked
-pub record Marked (links : List Edge) (filter : ℕ) (marks : List Bool) : Type 0 where
-  pub reached : (taker : ℕ) → get_or marks taker false ≡ true → Reaches links filter taker
-  pub bare : get_or marks filter false ≡ false
-
--- one more is reached
-pub reached_more : (links : List Edge) (filter : ℕ) (marks : List Bool) (giver taker : ℕ) → Marked links filter marks → Feeds links giver taker → Leads filter marks giver → Reaches links filter taker
-reached_more links filter marks giver taker is feeds leads = elim leads [
-  | inl same ↦ (let P : ℕ → Type 0 = λ n. Feeds links n taker in Directly filter (subst P same feeds))
-  | inr mark ↦ leads_on links giver taker filter (is.reached giver mark) feeds
+pub set_stays : (marks : List Bool) (new filter : ℕ) → new < length marks → IsMarked marks filter → IsMarked (set marks new true) filter
+set_stays marks new filter low is = elim (cases_eq filter new) [
+  | inl same ↦ rw (same, get_or-set_same marks new true false low) refl
+  | inr apart ↦ rw (get_or-set_other marks new filter true false apart) is
 ]
 
-pub marked_more : (links : List Edge) (filter : ℕ) (marks : List Bool) (taker : ℕ) → Marked links filter marks → Reaches links filter taker → taker < length marks → (taker ≡ filter → ⊥) → Marked links filter (set marks taker true)
-marked_more links filter marks taker is reaches low other = record {
-  reached = λ next mark. elim (cases_eq next taker) [
-    | inl same ↦ (let P : ℕ → Type 0 = λ n. Reaches links filter n in subst P (sym same) reaches)
-    | inr apart ↦ is.reached next (rw (get_or-set_other marks taker next true false apart) at mark)
-  ];
-  bare = (let apart : filter ≡ taker → ⊥ = λ e. other (sym e) in rw (get_or-set_other marks taker filter true false apart) is.bare);
-}
-
--- all that is reached is marked
-pub closed_all : (links : List Edge) (filter : ℕ) (marks : List Bool) → AreClosed (Feeds links) filter marks → (taker giver : ℕ) → LeadsTo links taker giver → Leads filter marks giver → get_or marks taker false ≡ true
-closed_all links filter marks closed taker _ (Directly giver feeds) leads = closed giver taker feeds leads
-closed_all links filter marks closed taker _ (Through giver middle feeds on) leads = closed_all links filter marks closed taker middle on (inr (closed giver middle feeds leads))
-
--- so few are left to mark
-pub unmarked_less : (marks : List Bool) (taker : ℕ) → taker < length marks → get_or marks taker false ≡ false → count_by not (set marks taker true) < count_by not marks
-unmarked_less marks taker low bare =
-    let sums = rw bare at (sum_by-set (λ (b : Bool). cond (not b) 1 0) marks taker true false low) in
+-- so many are left to mark
+pub unmarked_less : (marks : List Bool) (filter : ℕ) → filter < length marks → get_or marks filter false ≡ false → count_by not (set marks filter true) + 1 ≡ count_by not marks
+unmarked_less marks filter low bare =
+    let sums = rw bare at (sum_by-set (λ (b : Bool). cond (not b) 1 0) marks filter true false low) in
     omega (arith, sums)
 
--- where some filter reaches itself, the count of those that don't, from 0 on, is below the count of all
-pub cycle_below : (links : List Edge) (count filter : ℕ) → AreBelow links count → (((other : ℕ) → Reaches links other other → ⊥) → ⊥)
-    → ((other : ℕ) → other < filter → Reaches links other other → ⊥) → filter < count
-cycle_below links count filter below some none = elim (cases_lt filter count) [
-  | inl less ↦ less
-  | inr past ↦ absurd (some (λ other reaches. none other (let low = leads_below links count other other below reaches in omega arith) reaches))
+pub marked_none : (marks : List Bool) (stack : List ℕ) → AreMarked (Contains []) marks marks stack stack
+marked_none marks stack = record {
+  marked = λ filter. (λ is. inl is, λ both. elim both [ inl is ↦ is | inr here ↦ absurd (let k : here.0 < 0 = here.1 in omega arith) ]);
+  stacked = λ filter. (λ is. inl is, λ both. elim both [ inl is ↦ is | inr here ↦ absurd (let k : here.0.0 < 0 = here.0.1 in omega arith) ]);
+}
+
+-- one that is marked
+pub marked_old : (before marks : List Bool) (first stack filters : List ℕ) (next : ℕ) → AreMarked (Contains filters) before marks first stack → IsMarked marks next
+    → AreMarked (Contains (filters ++ next ∷ [])) before marks first stack
+marked_old before marks first stack filters next are is = record {
+  marked = λ filter. (
+    λ yes. elim ((are.marked filter).0 yes) [ inl old ↦ inl old | inr here ↦ inr (Contains-append_left filters (next ∷ []) filter here) ],
+    λ both. elim both [
+      | inl old ↦ (are.marked filter).1 (inl old)
+      | inr here ↦ elim (Contains-push_cases filters next filter here) [
+        | inl there ↦ (are.marked filter).1 (inr there)
+        | inr same ↦ (let P : ℕ → Type 0 = λ n. IsMarked marks n in subst P same is)
+      ]
+    ],
+  );
+  stacked = λ filter. (
+    λ yes. elim ((are.stacked filter).0 yes) [ inl old ↦ inl old | inr here ↦ inr (Contains-append_left filters (next ∷ []) filter here.0, here.1) ],
+    λ both. elim both [
+      | inl old ↦ (are.stacked filter).1 (inl old)
+      | inr here ↦ elim (Contains-push_cases filters next filter here.0) [
+        | inl there ↦ (are.stacked filter).1 (inr (there, here.1))
+        | inr same ↦ (
+            let P : ℕ → Type 0 = λ n. IsMarked marks n in
+            elim ((are.marked filter).0 (subst P same is)) [
+              | inl old ↦ absurd (let bare = here.1 in cc)
+              | inr there ↦ (are.stacked filter).1 (inr (there, here.1))
+            ]
+            )
+      ]
+    ],
+  );
+}
+
+-- one that isn't marked
+pub marked_new : (before marks : List Bool) (first stack filters : List ℕ) (next : ℕ) → AreMarked (Contains filters) before marks first stack → next < length marks → get_or marks next false ≡ false
+    → AreMarked (Contains (filters ++ next ∷ [])) before (set marks next true) first (stack ++ next ∷ [])
+marked_new before marks first stack filters next are low bare = record {
+  marked = λ filter. (
+    λ yes. elim (cases_eq filter next) [
+      | inl same ↦ inr (let P : ℕ → Type 0 = λ n. Contains (filters ++ next ∷ []) n in subst P (sym same) (Contains-push filters next))
+      | inr apart ↦ elim ((are.marked filter).0 (rw (get_or-set_other marks next filter true false apart) at yes)) [
+        | inl old ↦ inl old
+        | inr here ↦ inr (Contains-append_left filters (next ∷ []) filter here)
+      ]
+    ],
+    λ both. elim both [
+      | inl old ↦ set_stays marks next filter low ((are.marked filter).1 (inl old))
+      | inr here ↦ elim (Contains-push_cases filters next filter here) [
+        | inl there ↦ set_stays marks next filter low ((are.marked filter).1 (inr there))
+        | inr same ↦ (let P : ℕ → Type 0 = λ n. IsMarked (set marks next true) n in subst P same (get_or-set_same marks next true false low))
+      ]
+    ],
+  );
+  stacked = λ filter. (
+    λ yes. elim (Contains-push_cases stack next filter yes) [
+      | inl there ↦ elim ((are.stacked filter).0 there) [
+        | inl old ↦ inl old
+        | inr here ↦ inr (Contains-append_left filters (next ∷ []) filter here.0, here.1)
+      ]
+      | inr same ↦ inr (
+          let P : ℕ → Type 0 = λ n. Contains (filters ++ next ∷ []) n × (get_or before n false ≡ false) in
+          subst P same (Contains-push filters next, was)
+          )
+    ],
+    λ both. elim both [
+      | inl old ↦ Contains-append_left stack (next ∷ []) filter ((are.stacked filter).1 (inl old))
+      | inr here ↦ elim (Contains-push_cases filters next filter here.0) [
+        | inl there ↦ Contains-append_left stack (next ∷ []) filter ((are.stacked filter).1 (inr (there, here.1)))
+        | inr same ↦ (let P : ℕ → Type 0 = λ n. Contains (stack ++ next ∷ []) n in subst P same (Contains-push stack next))
+      ]
+    ],
+  );
+} where
+  was : get_or before next false ≡ false
+  was = elim (cases_Bool (get_or before next false)) [
+    | inl before_too ↦ absurd (let is = (are.marked next).1 (inl before_too) in cc)
+    | inr bare_too ↦ bare_too
+  ]
+
+-- ---- a walk
+
+-- the filter itself, or a marked one
+abbrev pub Leads : ℕ → List Bool → ℕ → Type 0
+Leads filter marks giver = (giver ≡ filter) ⊎ IsMarked marks giver
+
+-- what is marked is reached; where the walk has been, all that comes next is marked; and the others are on the stack
+pub record Walking (takers : List (Vec ℕ Global)) (filter : ℕ) (marks : List Bool) (stack : List ℕ) : Type 0 where
+  pub reached : (taker : ℕ) → IsMarked marks taker → Reaches (Has takers) filter taker
+  pub stacked : (giver : ℕ) → Contains stack giver → Leads filter marks giver
+  pub passed : (giver taker : ℕ) → Leads filter marks giver → Has takers giver taker → Contains stack giver ⊎ IsMarked marks taker
+
+-- the filter on top of the stack has a mark
+pub top_within : (takers : List (Vec ℕ Global)) (filter giver : ℕ) (marks : List Bool) (stack rest : List ℕ) → Walking takers filter marks stack → stack ≡ rest ++ giver ∷ [] → filter < length marks → giver < length marks
+top_within takers filter giver marks stack rest is top low = elim (is.stacked giver here) [
+  | inl same ↦ omega arith
+  | inr marked ↦ marked_within marks giver marked
+] where
+  here : Contains stack giver
+  here = let P : List ℕ → Type 0 = λ xs. Contains xs giver in subst P (sym top) (Contains-push rest giver)
+
+-- the walk goes on at the filter on top of the stack
+pub walking_more : (takers : List (Vec ℕ Global)) (filter giver : ℕ) (row : Vec ℕ Global) (old new : List Bool) (stack rest next : List ℕ) → Walking takers filter old stack
+    → stack ≡ rest ++ giver ∷ [] → slice_get takers giver ≡ Some row → AreMarked (Contains row.items) old new rest next → Walking takers filter new next
+walking_more takers filter giver row old new stack rest next is top at are = record {
+  reached = λ taker yes. elim ((are.marked taker).0 yes) [
+    | inl before ↦ is.reached taker before
+    | inr here ↦ on taker (row, at, here)
+  ];
+  stacked = λ other here. elim ((are.stacked other).0 here) [
+    | inl before ↦ grown other (is.stacked other (below other before))
+    | inr added ↦ inr ((are.marked other).1 (inr added.0))
+  ];
+  passed = λ other taker leads has. elim (was other leads) [
+    | inl before ↦ elim (is.passed other taker before has) [
+      | inl there ↦ elim (Contains-push_cases rest giver other (let P : List ℕ → Type 0 = λ xs. Contains xs other in subst P top there)) [
+        | inl low ↦ inl ((are.stacked other).1 (inl low))
+        | inr same ↦ inr (
+            let P : ℕ → Type 0 = λ n. Has takers n taker in
+            (are.marked taker).1 (inr (in_row takers giver taker row at (subst P (sym same) has)))
+            )
+      ]
+      | inr marked ↦ inr ((are.marked taker).1 (inl marked))
+    ]
+    | inr added ↦ inl ((are.stacked other).1 (inr added))
+  ];
+} where
+  below : (other : ℕ) → Contains rest other → Contains stack other
+  below other here = let P : List ℕ → Type 0 = λ xs. Contains xs other in subst P (sym top) (Contains-append_left rest (giver ∷ []) other here)
+
+  leads : Leads filter old giver
+  leads = is.stacked giver (let P : List ℕ → Type 0 = λ xs. Contains xs giver in subst P (sym top) (Contains-push rest giver))
+
+  on : (taker : ℕ) → Has takers giver taker → Reaches (Has takers) filter taker
+  on taker has = elim leads [
+    | inl same ↦ (let P : ℕ → Type 0 = λ n. Has takers n taker in Directly filter (subst P same has))
+    | inr marked ↦ leads_on (Has takers) giver taker filter (is.reached giver marked) has
+  ]
+
+  grown : (other : ℕ) → Leads filter old other → Leads filter new other
+  grown other way = elim way [ inl same ↦ inl same | inr marked ↦ inr ((are.marked other).1 (inl marked)) ]
+
+  was : (other : ℕ) → Leads filter new other → Leads filter old other ⊎ (Contains row.items other × (get_or old other false ≡ false))
+  was other way = elim way [
+    | inl same ↦ inl (inl same)
+    | inr marked ↦ elim (cases_Bool (get_or old other false)) [
+      | inl marked_before ↦ inl (inr marked_before)
+      | inr bare ↦ elim ((are.marked other).0 marked) [ inl old_one ↦ inl (inr old_one) | inr here ↦ inr (here, bare) ]
+    ]
+  ]
+
+-- where the stack is empty, all that is reached is marked
+walked : (takers : List (Vec ℕ Global)) (filter : ℕ) (marks : List Bool) → Walking takers filter marks [] → (taker giver : ℕ) → LeadsTo (Has takers) taker giver → Leads filter marks giver → IsMarked marks taker
+walked takers filter marks is taker _ (Directly giver has) leads = elim (is.passed giver taker leads has) [
+  | inl here ↦ absurd (let k : here.0 < 0 = here.1 in omega arith)
+  | inr marked ↦ marked
 ]
+walked takers filter marks is taker _ (Through giver middle has on) leads =
+    let next : IsMarked marks middle = elim (is.passed giver middle leads has) [
+      | inl here ↦ absurd (let k : here.0 < 0 = here.1 in omega arith)
+      | inr marked ↦ marked
+    ] in
+    walked takers filter marks is taker middle on (inr next)
 
--- ---- which filters are busy
+pub walked_all : (takers : List (Vec ℕ Global)) (filter : ℕ) (marks : List Bool) (stack : List ℕ) → Walking takers filter marks stack → stack ≡ [] → get_or marks filter false ≡ false → Reaches (Has takers) filter filter → ⊥
+walked_all takers filter marks stack is empty bare reaches =
+    let P : List ℕ → Type 0 = λ xs. Walking takers filter marks xs in
+    let yes = walked takers filter marks (subst P empty is) filter filter reaches (inl refl) in
+    cc
 
-pub record BusySoFar (links seen : List Edge) (done busy : List Bool) : Type 0 where
-  pub done_is_busy : (filter : ℕ) → get_or done filter false ≡ true → get_or busy filter false ≡ true
-  pub taker_is_busy : (giver taker : ℕ) → Feeds seen giver taker → get_or done giver false ≡ false → get_or busy taker false ≡ true
-  pub why : (filter : ℕ) → get_or busy filter false ≡ true → (get_or done filter false ≡ true) ⊎ ((giver : ℕ) × Feeds links giver filter × (get_or done giver false ≡ false))
-
-pub busy_none : (links : List Edge) (done : List Bool) → BusySoFar links [] done done
-busy_none links done = record {
-  done_is_busy = λ filter is. is;
-  taker_is_busy = λ giver taker feeds left. absurd (feeds_none giver taker feeds);
-  why = λ filter is. inl is;
-}
-
-set_stays : (busy : List Bool) (taker filter : ℕ) → taker < length busy → get_or busy filter false ≡ true → get_or (set busy taker true) filter false ≡ true
-set_stays busy taker filter low is = elim (cases_eq filter taker) [
-  | inl same ↦ rw (same, get_or-set_same busy taker true false low) refl
-  | inr apart ↦ rw (get_or-set_other busy taker filter true false apart) is
-]
-
--- a link that holds its taker back
-pub busy_more : (links : List Edge) (index : ℕ) (d : Edge) (done busy : List Bool) (taker : ℕ) → index < length links → taker < length busy
-    → BusySoFar links (take index links) done busy → ((giver : ℕ) × Joins (get_or links index d) giver taker × (get_or done giver false ≡ false)) → BusySoFar links (take (index + 1) links) done (set busy taker true)
-busy_more links index d done busy taker within low so_far holds = record {
-  done_is_busy = λ filter yes. set_stays busy taker filter low (so_far.done_is_busy filter yes);
-  taker_is_busy = λ giver other feeds left. elim (feeds_more links index d giver other within feeds) [
-    | inl old ↦ set_stays busy taker other low (so_far.taker_is_busy giver other old left)
-    | inr joins ↦ rw (joins_once (get_or links index d) giver holds.0 other taker joins holds.1, get_or-set_same busy taker true false low) refl
-  ];
-  why = λ filter yes. elim (cases_eq filter taker) [
-    | inl same ↦ (
-        let P : ℕ → Type 0 = λ n. Feeds links holds.0 n in
-        inr (holds.0, subst P (sym same) (feeds_at links index d holds.0 taker within holds.1), holds.2)
-        )
-    | inr apart ↦ so_far.why filter (rw (get_or-set_other busy taker filter true false apart) at yes)
-  ];
-}
-
--- a link that holds nothing back
-pub busy_same : (links : List Edge) (index : ℕ) (d : Edge) (done busy : List Bool) → index < length links
-    → BusySoFar links (take index links) done busy → ((giver taker : ℕ) → Joins (get_or links index d) giver taker → get_or done giver false ≡ true) → BusySoFar links (take (index + 1) links) done busy
-busy_same links index d done busy within so_far free = record {
-  done_is_busy = so_far.done_is_busy;
-  taker_is_busy = λ giver taker feeds left. elim (feeds_more links index d giver taker within feeds) [
-    | inl old ↦ so_far.taker_is_busy giver taker old left
-    | inr joins ↦ absurd (let done = free giver taker joins in cc)
-  ];
-  why = so_far.why;
-}
-
--- all links were seen
-pub busy_all : (links : List Edge) (index : ℕ) (done busy : List Bool) → length links ≤ index → BusySoFar links (take index links) done busy → IsBusy links done busy
-busy_all links index done busy past is = record {
-  done_is_busy = is.done_is_busy;
-  taker_is_busy = λ giver taker feeds left. is.taker_is_busy giver taker (rw (take_all index links past) feeds) left;
-  why = is.why;
-}
+pub no_items : (xs : List ℕ) → length xs ≡ 0 → xs ≡ []
+no_items [] e = refl
+no_items (x ∷ xs) e = absurd (omega arith)

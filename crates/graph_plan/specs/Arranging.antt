@@ -1,16 +1,21 @@
 -- What an arrangement of filters says.
-use Rattle.std.specs.Prelude.{◌≡◌, ◌<◌, ◌⊎◌, ℕ, List, Bool, true, false, length, slice_index_or}
+use Rattle.std.specs.Prelude.{◌≡◌, ◌<◌, ◌⊎◌, ◌↔◌, ℕ, List, Bool, Some, true, false, length, slice_index, slice_index_or, Vec}
+use Rattle.std.specs.declared.alloc.Global.{Global}
+use Rattle.std.specs.List.{slice_get, Contains}
 use Rattle.graph_plan.specs.declared.plan.Edge.{Edge}
 use Rattle.graph_plan.specs.declared.plan.Source.TheVariants as from
 use Rattle.graph_plan.specs.declared.plan.Target.TheVariants as to
 use Rattle.graph_plan.specs.declared.order.Arranged.{Arranged}
 use Rattle.graph_plan.specs.declared.order.Arranged.TheVariants.{Order, Cycle}
-use Rattle.graph_plan.specs.Orders.{IsOrder, IsLeastCycle, Feeds}
+use Rattle.graph_plan.specs.declared.order.Neighbours.{Neighbours}
+use Rattle.graph_plan.specs.declared.order.Progress.{Progress}
+use Rattle.graph_plan.specs.Orders.{IsOrder, Reaches, Feeds}
+use Rattle.graph_plan.specs.Least.{IsLeast}
 
 -- it is the order, or the least filter that reaches itself
 abbrev pub IsArranged : List Edge → ℕ → Arranged → Type 0
-IsArranged links count (Order order) = IsOrder links count order.items
-IsArranged links count (Cycle filter) = IsLeastCycle links filter
+IsArranged links count (Order order) = IsOrder (Feeds links) count order.items
+IsArranged links count (Cycle filter) = IsLeast (λ f. Reaches (Feeds links) f f) filter
 
 -- a link from the one filter to the other
 abbrev pub Joins : Edge → ℕ → ℕ → Type 0
@@ -20,21 +25,49 @@ Joins link giver taker = (out_pad in_pad : ℕ) × (link ≡ record { from = fro
 abbrev pub IsBelow : Edge → ℕ → Type 0
 IsBelow link count = (giver taker : ℕ) → Joins link giver taker → (giver < count) × (taker < count)
 
--- the filter itself, or a marked one
-abbrev pub Leads : ℕ → List Bool → ℕ → Type 0
-Leads filter marks giver = (giver ≡ filter) ⊎ (slice_index_or marks giver false ≡ true)
+-- ---- filters by the filters that they are linked to
 
--- where these links lead from the filter or a marked one, they lead to a marked one
-abbrev pub AreClosed : (ℕ → ℕ → Type 0) → ℕ → List Bool → Type 0
-AreClosed link filter marks = (giver taker : ℕ) → link giver taker → Leads filter marks giver → slice_index_or marks taker false ≡ true
+-- the row of this number has the item
+abbrev pub Has : List (Vec ℕ Global) → ℕ → ℕ → Type 0
+Has rows number item = (row : Vec ℕ Global) × (slice_get rows number ≡ Some row) × Contains row.items item
 
--- such a link leads to this one, which isn't marked
-abbrev pub IsUnmarked : (ℕ → ℕ → Type 0) → ℕ → List Bool → ℕ → Type 0
-IsUnmarked link filter marks taker = (taker < length marks) × (slice_index_or marks taker false ≡ false) × ((giver : ℕ) × link giver taker × Leads filter marks giver)
+-- so many rows of numbers below a bound
+pub record AreRows (count bound : ℕ) (rows : List (Vec ℕ Global)) : Type 0 where
+  pub each : length rows ≡ count
+  pub below : (number item : ℕ) → Has rows number item → item < bound
 
--- the busy filters are those that are done, and those that take from one that isn't
-pub record IsBusy (links : List Edge) (done busy : List Bool) : Type 0 where
-  pub done_is_busy : (filter : ℕ) → slice_index_or done filter false ≡ true → slice_index_or busy filter false ≡ true
-  pub taker_is_busy : (giver taker : ℕ) → Feeds links giver taker → slice_index_or done giver false ≡ false → slice_index_or busy taker false ≡ true
-  pub why : (filter : ℕ) → slice_index_or busy filter false ≡ true
-      → (slice_index_or done filter false ≡ true) ⊎ ((giver : ℕ) × Feeds links giver filter × (slice_index_or done giver false ≡ false))
+-- the rows of so many filters say which feed each, and which each feeds
+pub record AreNeighbours (feeds : ℕ → ℕ → Type 0) (count : ℕ) (neighbours : Neighbours) : Type 0 where
+  pub givers_each : length neighbours.givers.items ≡ count
+  pub takers_each : length neighbours.takers.items ≡ count
+  pub givers : (giver taker : ℕ) → Has neighbours.givers.items taker giver ↔ feeds giver taker
+  pub takers : (giver taker : ℕ) → Has neighbours.takers.items giver taker ↔ feeds giver taker
+
+-- ---- how far an order has come
+
+abbrev pub IsMarked : List Bool → ℕ → Type 0
+IsMarked marks filter = slice_index_or marks filter false ≡ true
+
+-- all that a filter takes from is done
+abbrev pub HasAll : List (Vec ℕ Global) → List Bool → ℕ → Type 0
+HasAll givers done taker = (giver : ℕ) → Has givers taker giver → IsMarked done giver
+
+-- a filter's givers before its place are done
+pub record IsAlong (givers : List (Vec ℕ Global)) (progress : Progress) : Type 0 where
+  pub rows : AreRows (length progress.done.items) (length progress.done.items) givers
+  pub places : length progress.next.items ≡ length progress.done.items
+  pub passed : (taker : ℕ) (row : Vec ℕ Global) (k : ℕ) → slice_get givers taker ≡ Some row → k < slice_index progress.next.items taker → k < length row.items
+      → IsMarked progress.done.items (slice_index row.items k)
+
+-- these are added to the ready filters, where all that they take from is done
+pub record AreAdded (givers : List (Vec ℕ Global)) (filters : ℕ → Type 0) (old new : Progress) : Type 0 where
+  pub along : IsAlong givers new
+  pub same : new.done.items ≡ old.done.items
+  pub ready : (filter : ℕ) → Contains new.ready.keys filter ↔ (Contains old.ready.keys filter ⊎ (filters filter × HasAll givers old.done.items filter))
+
+-- ---- marks on the way from a filter
+
+-- these are marked too, and those of them that weren't are put on the stack
+pub record AreMarked (filters : ℕ → Type 0) (old new : List Bool) (old_stack new_stack : List ℕ) : Type 0 where
+  pub marked : (filter : ℕ) → IsMarked new filter ↔ (IsMarked old filter ⊎ filters filter)
+  pub stacked : (filter : ℕ) → Contains new_stack filter ↔ (Contains old_stack filter ⊎ (filters filter × (slice_index_or old filter false ≡ false)))

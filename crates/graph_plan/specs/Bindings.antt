@@ -1,6 +1,7 @@
 -- Which output file takes which open output pad.
-use Rattle.std.specs.Prelude.{◌≡◌, ◌<◌, ◌+◌, ◌++◌, ℕ, List, [], ◌∷◌, Option, Some, None, Result, Ok, Err, length}
+use Rattle.std.specs.Prelude.{◌≡◌, ◌<◌, ◌+◌, ◌++◌, ◌⊎◌, ℕ, List, [], ◌∷◌, Option, Some, None, Result, Ok, Err, length}
 use Rattle.std.specs.List.{slice_get}
+use Rattle.graph_plan.specs.Least.{IsLeast, Never}
 use Rattle.av_base.specs.declared.formats.Media.{Media}
 use Rattle.av_base.specs.declared.formats.Media.TheVariants as media
 use Rattle.graph_plan.specs.declared.plan.Edge.{Edge}
@@ -13,7 +14,7 @@ use Rattle.graph_plan.specs.declared.plan.OutputFile.{OutputFile}
 use Rattle.graph_plan.specs.declared.plan.DraftPlan.{DraftPlan}
 use Rattle.graph_plan.specs.declared.plan.Plan.{Plan}
 use Rattle.graph_plan.specs.declared.plan.PlanFault.{PlanFault}
-use Rattle.graph_plan.specs.declared.plan.PlanFault.TheVariants.{NoSuchOutput, Unmapped, WrongKind, Cycle}
+use Rattle.graph_plan.specs.declared.plan.PlanFault.TheVariants.{NoSuchOutput, Unmapped, WrongKind}
 use Rattle.graph_plan.specs.declared.plan.PlanError.{PlanError}
 use Rattle.graph_plan.specs.declared.plan.PlanError.TheVariants.{Fault, NoMemory}
 
@@ -41,11 +42,6 @@ pad_names opens = names (λ (p : OpenOut). p.label) 0 opens
 
 abbrev pub file_names : List OutputFile → List Name
 file_names files = names (λ (f : OutputFile). f.label) 0 files
-
--- the least number of which something holds
-pub record IsLeast (P : ℕ → Type 0) (k : ℕ) : Type 0 where
-  pub holds : P k
-  pub least : (other : ℕ) → other < k → ¬ P other
 
 -- the first open pad that is called so
 abbrev pub IsPadOf : List OpenOut → Name → ℕ → Type 0
@@ -82,21 +78,22 @@ pub record TakesWrong (opens : List OpenOut) (files : List OutputFile) (k : ℕ)
   pub cannot : CannotTake file.ending pad.media
 
 -- the first fault: of the files that find none, then of the pads that are left, then of the kinds, the least
-abbrev pub IsBindFault : List OpenOut → List OutputFile → PlanFault → Type 0
-IsBindFault opens files (NoSuchOutput output) = IsLeast (FindsNone opens files) output
-IsBindFault opens files (Unmapped filter pad) = ((k : ℕ) → ¬ FindsNone opens files k)
-    × ((o : ℕ) × IsLeast (IsUnmapped opens files) o × ((p : OpenOut) × (slice_get opens o ≡ Some p) × (p.filter ≡ filter) × (p.pad ≡ pad)))
-IsBindFault opens files (WrongKind output) = ((k : ℕ) → ¬ FindsNone opens files k) × ((o : ℕ) → ¬ IsUnmapped opens files o) × IsLeast (TakesWrong opens files) output
-IsBindFault opens files (Cycle filter) = ⊥
+pub data IsBindFault (opens : List OpenOut) (files : List OutputFile) : PlanFault → Type 0 where
+  Misses : (output : ℕ) → IsLeast (FindsNone opens files) output → IsBindFault opens files (NoSuchOutput output)
+  Leaves : (filter pad : ℕ) → Never (FindsNone opens files)
+      → ((o : ℕ) × IsLeast (IsUnmapped opens files) o × ((p : OpenOut) × (slice_get opens o ≡ Some p) × (p.filter ≡ filter) × (p.pad ≡ pad)))
+      → IsBindFault opens files (Unmapped filter pad)
+  Mixes : (output : ℕ) → Never (FindsNone opens files) → Never (IsUnmapped opens files) → IsLeast (TakesWrong opens files) output
+      → IsBindFault opens files (WrongKind output)
 
 -- the link from a pad to an output
-abbrev pub link_to : OpenOut → ℕ → Edge
-link_to p output = record { from = from.Filter p.filter p.pad; to = to.Output output }
+abbrev pub link_to_output : OpenOut → ℕ → Edge
+link_to_output p output = record { from = from.Filter p.filter p.pad; to = to.Output output }
 
 -- the links to outputs, in order
 pub record AreOutputs (opens : List OpenOut) (files : List OutputFile) (links : List Edge) : Type 0 where
   pub each : length links ≡ length files
-  pub are : (k : ℕ) (link : Edge) → slice_get links k ≡ Some link → (o : ℕ) × Takes opens files k o × ((p : OpenOut) × (slice_get opens o ≡ Some p) × (link ≡ link_to p k))
+  pub are : (k : ℕ) (link : Edge) → slice_get links k ≡ Some link → (o : ℕ) × Takes opens files k o × ((p : OpenOut) × (slice_get opens o ≡ Some p) × (link ≡ link_to_output p k))
 
 -- the plan of a draft whose outputs are bound: each file takes a pad of its own, each pad is taken, and the kinds fit
 pub record IsBound (draft : DraftPlan) (files : List OutputFile) (plan : Plan) : Type 0 where
@@ -128,8 +125,9 @@ Refuses f (Ok x) = ⊥
 Refuses f (Err (Fault g)) = g ≡ f
 Refuses f (Err NoMemory) = Unit {0}
 
--- a draft has one bound plan or one fault at most, and never both
+-- a draft has one bound plan or one fault, and never both
 pub record OutputsBindInOneWay : Type 0 where
   pub one_plan : (draft : DraftPlan) (files : List OutputFile) (a b : Plan) → IsBound draft files a → IsBound draft files b → a ≡ b
   pub one_fault : (opens : List OpenOut) (files : List OutputFile) (f g : PlanFault) → IsBindFault opens files f → IsBindFault opens files g → f ≡ g
   pub not_both : (draft : DraftPlan) (files : List OutputFile) (plan : Plan) (f : PlanFault) → IsBound draft files plan → IsBindFault draft.opens files f → ⊥
+  pub one_of_both : (draft : DraftPlan) (files : List OutputFile) → ((plan : Plan) × IsBound draft files plan) ⊎ ((f : PlanFault) × IsBindFault draft.opens files f)

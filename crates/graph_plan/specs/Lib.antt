@@ -1,4 +1,10 @@
+pub mod Least
 pub mod Orders
+pub mod Graphs
+pub mod Links
+pub mod Refusals
+pub mod Joining
 pub mod Arranging
 pub mod Bindings
 pub mod Places
+pub mod Lawful

@@ -1,7 +1,8 @@
 //! Binding of output files to open output pads.
 ghost use Rattle.std.specs.Prelude.{◌≡◌, ◌≢◌, ◌<◌, ◌≤◌, ◌^◌, ◌↔◌, ◌++◌, ℕ, List, Some, length, IsTrue, IfOk, IfSome, IsNone};
 ghost use Rattle.std.specs.List.{slice_get, Contains};
-ghost use Rattle.graph_plan.specs.Bindings.{name_of, number_behind, pad_names, IsLeast, IsPadOf, IsUnmapped, CannotTake, TakesWrong, IsBindFault, IsBound, IfFault, Gives, Refuses};
+ghost use Rattle.graph_plan.specs.Bindings.{name_of, number_behind, pad_names, IsPadOf, IsUnmapped, CannotTake, TakesWrong, IsBindFault, IsBound, IfFault, Gives, Refuses};
+ghost use Rattle.graph_plan.specs.Least.{IsLeast};
 ghost use Rattle.graph_plan.specs.Places.{AreFound, IsLeft, AreLinks};
 ghost use Rattle.graph_plan.specs.declared.plan.Edge.{Edge};
 ghost use Rattle.graph_plan.specs.declared.plan.Plan.{Plan};

@@ -1,13 +1,26 @@
 //! Graphs have one plan.
 ghost use Rattle.graph_plan.specs.Orders.{OneOrder};
+ghost use Rattle.graph_plan.specs.Refusals.{GraphsLinkInOneWay};
 ghost use Rattle.graph_plan.specs.Bindings.{OutputsBindInOneWay};
+ghost use Rattle.graph_plan.specs.Lawful.{PlansAreLawful};
 
-/// Links have one order of filters at most, and none where a filter reaches itself.
+/// Links have one order of filters at most, and one exactly where no filter reaches itself.
 pub fn plans_have_one_order()
     ensures { OneOrder }
 {}
 
-/// A draft has one bound plan or one fault at most, and never both.
+/// A draft has one bound plan or one fault, and never both.
 pub fn outputs_bind_in_one_way()
     ensures { OutputsBindInOneWay }
+{}
+
+/// A graph has one draft or one fault at most, and never both.
+pub fn graphs_link_in_one_way()
+    ensures { GraphsLinkInOneWay }
+{}
+
+/// In a plan the ends of links are there and agree, each input pad and each output file is the end of one link, and each
+/// filter comes once, behind those that it takes from.
+pub fn plans_are_lawful()
+    ensures { PlansAreLawful }
 {}

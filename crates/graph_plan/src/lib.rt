@@ -2,16 +2,28 @@
 #![tactic(auto)]
 
 mod bind;
+mod counts;
+mod labels;
 mod law;
+mod linking;
+mod opens;
 mod order;
+mod origins;
+mod places;
 mod plan;
+mod turns;
 
-pub use law::{outputs_bind_in_one_way, plans_have_one_order};
+pub use law::{
+    graphs_link_in_one_way, outputs_bind_in_one_way, plans_are_lawful, plans_have_one_order,
+};
+pub use linking::link;
 pub use plan::{
-    DraftPlan, Edge, Ending, OpenOut, OutputFile, Plan, PlanError, PlanFault, Source, Target,
+    DraftPlan, Edge, Ending, OpenOut, OutputFile, Pads, Plan, PlanError, PlanFault, Source, Target,
 };
 
 #[cfg(test)]
 mod bind_tests;
+#[cfg(test)]
+mod linking_tests;
 #[cfg(test)]
 mod order_tests;

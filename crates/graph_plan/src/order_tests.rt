@@ -1,5 +1,5 @@
 ghost use Rattle.std.specs.Prelude.{◌<◌, ◌^◌, length, IsTrue};
-ghost use Rattle.graph_plan.specs.Orders.{AreBelow};
+ghost use Rattle.graph_plan.specs.Orders.{AreBelow, Feeds};
 ghost use Rattle.graph_plan.specs.Arranging.{IsBelow};
 
 use crate::order::{Arranged, arrange, ends};
@@ -54,7 +54,7 @@ fn is_below(link: &Edge, count: u32) -> bool
 
 /// Whether all links lead between so many filters.
 fn are_below(links: &[Edge], count: u32) -> bool
-    ensures { IsTrue result → AreBelow links.now count }
+    ensures { IsTrue result → AreBelow (Feeds links.now) count }
 {
     'links: for link in links {
         if !is_below(link, count) {

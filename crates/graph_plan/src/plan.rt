@@ -1,6 +1,15 @@
 //! The parts of a plan.
-use av_base::{List, Media, Text};
+use av_base::{List, Media, NoMemory, Text};
 use std::alloc::{AllocError, AllocFailed};
+
+/// What the pads of a call's filter take and give, by their numbers.
+#[derive(Drop)]
+pub struct Pads {
+    /// What each input pad takes.
+    pub ins: List<Media>,
+    /// What each output pad gives.
+    pub outs: List<Media>,
+}
 
 /// Where a link begins.
 #[derive(Clone, Copy, Debug, PartialEq, Eq)]
@@ -101,10 +110,40 @@ pub struct OutputFile {
 /// Why there is no plan.
 #[derive(Clone, Copy, Debug, PartialEq, Eq)]
 pub enum PlanFault {
+    /// The input pads and the outputs are more than 1,024.
+    TooManyLinks,
+    /// A filter has more labels than pads, or fewer unlabelled input pads than the filter before it in its chain has
+    /// unlabelled output pads.
+    PadCount {
+        /// The least such filter.
+        filter: u32,
+    },
+    /// A label stands on an output pad and on an earlier one, or on an output pad and on two input pads.
+    LabelTwice {
+        /// The least filter of such a pad that isn't the first.
+        filter: u32,
+    },
+    /// The label of an input pad stands on no output pad and names no input file.
+    UnknownInput {
+        /// The least filter of such a pad.
+        filter: u32,
+    },
+    /// A link's two ends differ in kind, or a label's `:v` or `:a` differs from its file's.
+    MediaMismatch {
+        /// The least filter that such a link leads to.
+        filter: u32,
+    },
     /// A filter reaches itself over links.
     Cycle {
         /// The least such filter.
         filter: u32,
+    },
+    /// An input pad without a label, to which no filter gives, finds no input file.
+    OpenPad {
+        /// The filter of the first such pad.
+        filter: u32,
+        /// The pad.
+        pad: u32,
     },
     /// An output file finds no open output pad, or one that an earlier file took by its label.
     NoSuchOutput {
@@ -152,6 +191,17 @@ impl<T: Drop> From<AllocFailed<T>> for PlanError {
     ghost from_gives = { λ _ e. e ≡ NoMemory };
 
     fn from(_refused: AllocFailed<T>) -> PlanError {
+        PlanError::NoMemory
+    }
+}
+
+impl From<NoMemory> for PlanError {
+    ghost use Rattle.std.specs.Prelude.{◌≡◌};
+    ghost use Rattle.graph_plan.specs.declared.plan.PlanError.TheVariants.{NoMemory};
+
+    ghost from_gives = { λ _ e. e ≡ NoMemory };
+
+    fn from(_refused: NoMemory) -> PlanError {
         PlanError::NoMemory
     }
 }

@@ -1,4 +1,5 @@
 use Rattle.std.proofs.Common.{rules, ◌<◌, ◌^◌, refl, arith}
+use Rattle.graph_plan.specs.Bindings.{Mixes}
 use Rattle.graph_plan.proofs.BindLemmas.{pad_left, all_find, all_mapped, wrong_within}
 use Rattle.graph_plan.proofs.bind.check_places.Goals as goal
 
@@ -10,11 +11,8 @@ overflow_cast-output c = let within = wrong_within c.in-Some-first_wrong.ensures
     let fits : c.in-Some-first_wrong.output < 2 ^ 32 = omega (arith, c.requires.few) in search rules
 
 pub returns-in-Some-first_wrong-clause-fault : goal.returns-in-Some-first_wrong-clause-fault
-returns-in-Some-first_wrong-clause-fault c = (
-  all_find c.requires.found c.requires.each,
-  all_mapped c.requires.found (c.in_default.ensures.none refl),
-  c.in-Some-first_wrong.ensures.wrong,
-)
+returns-in-Some-first_wrong-clause-fault c =
+    Mixes _ (all_find c.requires.found c.requires.each) (all_mapped c.requires.found (c.in_default.ensures.none refl)) c.in-Some-first_wrong.ensures.wrong
 
 pub returns-clause-mapped : goal.returns-clause-mapped
 returns-clause-mapped c = all_mapped c.requires.found (c.in_default.ensures.none refl)

@@ -1,4 +1,4 @@
-use Rattle.graph_plan.proofs.OrderLemmas.{orders_are_one}
+use Rattle.graph_plan.proofs.BuiltOrder.{orders_are_one}
 use Rattle.graph_plan.proofs.law.plans_have_one_order.Goals as goal
 
 pub returns : goal.returns

@@ -1,32 +1,35 @@
-use Rattle.std.proofs.Common.{◌∙◌, ap, length, false, arith}
-use Rattle.std.proofs.lemmas.List.{length-replicate}
-use Rattle.graph_plan.proofs.ArrangeLemmas.{arranging_none, arranging_more, arranging_stuck, arranging_all, lent}
+use Rattle.std.proofs.Common.{arith}
+use Rattle.graph_plan.proofs.ArrangeLemmas.{arranging_none, arranging_more, arranging_all, givers_rows, takers_rows, stuck_cycle, named_cycle, first_less, next_low, no_keys}
 use Rattle.graph_plan.proofs.order.arrange.Goals as goal
+
+pub begin-requires : goal.begin-requires
+begin-requires c = rw c.deref.ensures.value (givers_rows c.args.links.now c.args.count c.in_ok-neighbours.neighbours c.requires c.in_ok-neighbours.ensures)
 
 pub filters-init : goal.filters-init
 filters-init c =
-    let done = c.in_ok-done.ensures.items_if_clones_equal (λ y is. is) in
-    let busy = c.in_ok-busy.ensures.items_if_clones_equal (λ y is. is) in
-    rw c.new-order.ensures.items (arranging_none c.args.links.now c.args.count c.in_ok-done.done.items c.in_ok-busy.busy.items done (ap length busy ∙ length-replicate c.args.count false))
+    let along = rw c.deref.ensures.value at c.in_ok-progress.ensures.along in
+    let ready = rw c.deref.ensures.value at c.in_ok-progress.ensures.ready in
+    rw c.new-order.ensures.items (arranging_none c.args.links.now c.args.count c.in_ok-neighbours.neighbours c.in_ok-progress.progress c.in_ok-neighbours.ensures along c.in_ok-progress.ensures.each c.in_ok-progress.ensures.none ready)
 
-pub least_cycle-filter-requires-clause-some : goal.least_cycle-filter-requires-clause-some
-least_cycle-filter-requires-clause-some c =
-    let new = c.mark_busy.new.busy in
-    let seen = c.deref-in-filters.ensures.value ∙ lent new c.filters.busy.items c.filters.busy.len (c.mark_busy.auto.busy ∙ c.deref_mut.ensures.len) in
-    let room = c.mark_busy.auto.busy ∙ ap length c.deref_mut.ensures.value ∙ c.filters.invariant.room in
-    arranging_stuck c.args.links.now c.args.count c.filters.counter c.filters.order.items c.filters.done.items c.filters.busy.items new
-    c.requires c.filters.invariant (rw c.deref.ensures.value at c.mark_busy.ensures) (omega arith) (λ k low. (rw seen at c.in_default.ensures) k (omega arith))
+pub name_cycle-requires-clause-rows : goal.name_cycle-requires-clause-rows
+name_cycle-requires-clause-rows c = rw c.deref-in_default.ensures.value (takers_rows c.args.links.now c.args.count c.in_ok-neighbours.neighbours c.requires c.in_ok-neighbours.ensures)
+
+pub name_cycle-requires-clause-some : goal.name_cycle-requires-clause-some
+name_cycle-requires-clause-some c = rw c.deref-in_default.ensures.value (stuck_cycle c.args.links.now c.args.count c.filters.counter c.in_ok-neighbours.neighbours c.filters.order.items c.filters.progress c.requires c.in_ok-neighbours.ensures c.filters.invariant c.filters-test.true (no_keys c.filters.progress.ready.keys c.in_default.ensures.some.1))
+
+pub returns-in_default : goal.returns-in_default
+returns-in_default c = named_cycle c.args.links.now c.args.count c.in_ok-neighbours.neighbours c.in_ok-cycle.cycle c.in_ok-neighbours.ensures (rw c.deref-in_default.ensures.value at c.in_ok-cycle.ensures)
+
+pub complete-requires-clause-takers : goal.complete-requires-clause-takers
+complete-requires-clause-takers c = rw c.filters.invariant.all (takers_rows c.args.links.now c.args.count c.in_ok-neighbours.neighbours c.requires c.in_ok-neighbours.ensures)
+
+pub complete-requires-clause-low : goal.complete-requires-clause-low
+complete-requires-clause-low c = next_low c.args.links.now c.args.count c.filters.counter c.in-Some.filter c.in_ok-neighbours.neighbours c.filters.order.items c.take_least.new.ready.keys c.filters.progress c.filters.invariant c.in-Some.ensures.taken
 
 pub filters-preserved : goal.filters-preserved
-filters-preserved c =
-    let new = c.mark_busy.new.busy in
-    let all = c.mark_busy.auto.busy ∙ c.deref_mut.ensures.len in
-    let seen = c.deref-in-filters.ensures.value ∙ lent new c.filters.busy.items c.filters.busy.len all in
-    let room = c.mark_busy.auto.busy ∙ ap length c.deref_mut.ensures.value ∙ c.filters.invariant.room in
-    let free = rw seen at c.in-Some.ensures in
-    rw (c.in_ok-push.ensures.items, lent new c.filters.busy.items c.filters.busy.len all)
-    (arranging_more c.args.links.now c.args.count c.filters.counter c.in-Some.filter c.filters.order.items c.filters.done.items c.filters.busy.items new
-    c.requires c.filters.invariant (rw c.deref.ensures.value at c.mark_busy.ensures) room (let low = free.0 in omega arith) free.1 free.2)
+filters-preserved c = rw c.in_ok-push.ensures.items (arranging_more c.args.links.now c.args.count c.filters.counter c.in-Some.filter c.in_ok-neighbours.neighbours c.filters.order.items c.take_least.new.ready.keys c.filters.progress c.complete.new.progress
+    c.requires c.in_ok-neighbours.ensures c.filters.invariant c.in-Some.ensures.taken (first_less c.in-Some.filter c.take_least.new.ready.keys c.in-Some.ensures.least)
+    c.in_ok-complete.ensures.along c.in_ok-complete.ensures.done c.in_ok-complete.ensures.ready)
 
 pub returns : goal.returns
-returns c = arranging_all c.args.links.now c.args.count c.filters.counter c.filters.order.items c.filters.done.items c.filters.busy.items c.filters.invariant (let end = c.filters.auto.counter-end in omega arith)
+returns c = arranging_all c.args.links.now c.args.count c.filters.counter c.in_ok-neighbours.neighbours c.filters.order.items c.filters.progress c.filters.invariant (let past = c.filters-test.false in let end = c.filters.auto.counter-end in omega arith)

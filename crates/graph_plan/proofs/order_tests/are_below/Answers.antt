@@ -1,5 +1,5 @@
 use Rattle.std.proofs.Common.{rules, arith}
-use Rattle.graph_plan.proofs.ReachLemmas.{below_more}
+use Rattle.graph_plan.proofs.RowLemmas.{below_more}
 use Rattle.graph_plan.proofs.order_tests.are_below.Goals as goal
 
 pub links-preserved : goal.links-preserved

@@ -1,0 +1,23 @@
+use Rattle.graph_plan.specs.Arranging.{Has}
+use Rattle.graph_plan.proofs.RowLemmas.{noted_giver, noted_taker, noted_none}
+use Rattle.graph_plan.proofs.order.note_link.Goals as goal
+
+pub returns-in_default-clause-givers : goal.returns-in_default-clause-givers
+returns-in_default-clause-givers c giver taker = noted_none (Has c.args.neighbours.now.givers.items taker giver) c.args.link.now giver taker (c.in_default.ensures giver taker)
+
+pub returns-in_default-clause-takers : goal.returns-in_default-clause-takers
+returns-in_default-clause-takers c giver taker = noted_none (Has c.args.neighbours.now.takers.items giver taker) c.args.link.now giver taker (c.in_default.ensures giver taker)
+
+pub note-requires : goal.note-requires
+note-requires c = (c.requires.givers c.in-Some.giver c.in-Some.taker c.in-Some.ensures).1
+
+pub note-requires-2 : goal.note-requires-2
+note-requires-2 c = (c.requires.takers c.in-Some.giver c.in-Some.taker c.in-Some.ensures).0
+
+pub returns-clause-givers : goal.returns-clause-givers
+returns-clause-givers c giver taker =
+    noted_giver (Has c.args.neighbours.now.givers.items taker giver) (Has c.note.new.rows.items taker giver) c.args.link.now c.in-Some.giver c.in-Some.taker giver taker c.in-Some.ensures (c.in_ok-note.ensures.noted taker giver)
+
+pub returns-clause-takers : goal.returns-clause-takers
+returns-clause-takers c giver taker =
+    noted_taker (Has c.args.neighbours.now.takers.items giver taker) (Has c.note-2.new.rows.items giver taker) c.args.link.now c.in-Some.giver c.in-Some.taker giver taker c.in-Some.ensures (c.in_ok-note-2.ensures.noted giver taker)

@@ -1,0 +1,30 @@
+use Rattle.std.proofs.Common.{refl, arith}
+use Rattle.graph_plan.specs.declared.origins.Origin.TheVariants.{Pad}
+use Rattle.graph_plan.specs.declared.origins.Inlet.{Inlet}
+use Rattle.graph_plan.specs.Joining.{graph_of, IsMismatched}
+use Rattle.graph_plan.proofs.ScanLemmas.{scan_first, scan_more, scan_none, mismatch_listed, least_mismatch, never_mismatch, taker_at, inlet_count}
+use Rattle.graph_plan.proofs.origins.check_kinds.Goals as goal
+
+-- what is read past the end of a list of inlets
+abbrev no_inlet : Inlet
+no_inlet = record { taker = record { filter = 0; pad = 0 }; origin = Pad (record { filter = 0; pad = 0 }) }
+
+pub returns-then-is_mismatched-clause-fault : goal.returns-then-is_mismatched-clause-fault
+returns-then-is_mismatched-clause-fault c outputs few =
+    let g = graph_of c.args.parts.now in
+    let fit = c.requires.fit in
+    let here = taker_at g c.args.inlets.now c.inlets.inlet-index no_inlet c.requires.inlets c.inlets-test.true in
+    let first = scan_first g (IsMismatched g) c.inlets.inlet-index _ (mismatch_listed g fit) here c.inlets.invariant (c.if-is_mismatched.ensures.0 refl) in
+    (few, fit.counted.pads, fit.labels, c.requires.known, least_mismatch g fit _ first)
+
+pub inlets-preserved : goal.inlets-preserved
+inlets-preserved c =
+    let g = graph_of c.args.parts.now in
+    let here = taker_at g c.args.inlets.now c.inlets.inlet-index no_inlet c.requires.inlets c.inlets-test.true in
+    scan_more g (IsMismatched g) c.inlets.inlet-index _ here c.inlets.invariant (λ is. let no = c.if-is_mismatched.ensures.1 is in cc)
+
+pub returns-clause-agree : goal.returns-clause-agree
+returns-clause-agree c =
+    let g = graph_of c.args.parts.now in
+    let count = inlet_count g c.args.inlets.now c.requires.inlets in
+    never_mismatch g c.requires.fit (scan_none g (IsMismatched g) c.inlets.inlet-index (mismatch_listed g c.requires.fit) (omega (arith, count, c.inlets-test.false)) c.inlets.invariant)

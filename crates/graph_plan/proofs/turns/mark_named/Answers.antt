@@ -1,0 +1,32 @@
+use Rattle.std.proofs.Common.{◌∙◌, length, ap, sym}
+use Rattle.std.proofs.lemmas.List.{take_all}
+use Rattle.graph_plan.specs.declared.origins.Origin.TheVariants.{Pad}
+use Rattle.graph_plan.specs.declared.origins.Inlet.{Inlet}
+use Rattle.graph_plan.proofs.ListLemmas.{lent}
+use Rattle.graph_plan.proofs.TurnLemmas.{named_more, named_within}
+use Rattle.graph_plan.proofs.turns.mark_named.Goals as goal
+
+-- what is read past the end of a list of inlets
+abbrev no_inlet : Inlet
+no_inlet = record { taker = record { filter = 0; pad = 0 }; origin = Pad (record { filter = 0; pad = 0 }) }
+
+pub mark_file-requires : goal.mark_file-requires
+mark_file-requires c =
+    let each = ap length c.as_mut_slice.ensures.value ∙ c.inlets.invariant.each in
+    rw each (named_within c.args.inlets.now c.inlets.inlet-index no_inlet c.named_by.result c.args.count c.inlets-test.true c.requires c.named_by.ensures)
+
+pub inlets-preserved : goal.inlets-preserved
+inlets-preserved c =
+    let inlets = c.args.inlets.now in
+    let index = c.inlets.inlet-index in
+    let new = c.mark_file.new.taken in
+    let all = lent new c.inlets.taken.items c.inlets.taken.len (c.mark_file.auto.taken ∙ c.as_mut_slice.ensures.len) in
+    let each = ap length c.as_mut_slice.ensures.value ∙ c.inlets.invariant.each in
+    let within = rw (sym c.inlets.invariant.each) at (named_within inlets index no_inlet c.named_by.result c.args.count c.inlets-test.true c.requires c.named_by.ensures) in
+    rw all (record {
+      each = c.mark_file.auto.taken ∙ each;
+      marked = named_more inlets index no_inlet c.named_by.result c.inlets.taken.items new c.inlets-test.true c.named_by.ensures (rw c.as_mut_slice.ensures.value at c.mark_file.ensures) within c.inlets.invariant.marked;
+    })
+
+pub returns-clause-marked : goal.returns-clause-marked
+returns-clause-marked c = rw (take_all c.inlets.inlet-index c.args.inlets.now c.inlets-test.false) at c.inlets.invariant.marked
