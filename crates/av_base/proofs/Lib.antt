@@ -1,2 +1,3 @@
 pub mod LowestTerms
 mod Ratios
+pub mod FormatSetLemmas

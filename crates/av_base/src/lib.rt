@@ -5,12 +5,14 @@ mod containers;
 mod formats;
 mod numbers;
 mod planes;
+mod sets;
 mod shapes;
 
 pub use containers::{List, Text};
 pub use formats::{Format, Layout, Media, PixelFormat, SampleFormat};
 pub use numbers::{Ratio, TimeBase, reduce};
 pub use planes::{picture_bytes, plane_count, plane_size};
+pub use sets::{FORMATS, FormatSet};
 pub use shapes::{AudioProps, Props, Shape, VideoProps};
 use std::alloc::{AllocError, AllocFailed};
 

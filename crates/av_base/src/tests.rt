@@ -1,4 +1,7 @@
-use crate::{List, PixelFormat, Ratio, Text, picture_bytes, plane_count, plane_size, reduce};
+use crate::{
+    FORMATS, Format, FormatSet, List, PixelFormat, Ratio, SampleFormat, Text, picture_bytes,
+    plane_count, plane_size, reduce,
+};
 use std::test::Fail;
 
 #[test]
@@ -57,4 +60,18 @@ fn containers_give_back_what_they_keep(rt: HostRuntime) -> Result<(), Fail> {
     assert_eq!(rt; list.as_slice(), [3, 1].as_slice());
     assert_eq!(rt; list.into_vec().as_slice(), [3, 1].as_slice());
     Ok(())
+}
+
+#[test]
+fn a_bit_stands_for_each_format_in_order(rt: HostRuntime) {
+    assert_eq!(rt; FormatSet::empty().bits, 0);
+    assert_eq!(rt; FormatSet::all().bits, 0b11_1111_1111);
+    for (place, format) in FORMATS.iter().enumerate() {
+        assert_eq!(rt; FormatSet::of(*format).bits as usize, 1 << place);
+    }
+    let gray = Format::Video(PixelFormat::Gray);
+    let set = FormatSet::of(gray).with(Format::Audio(SampleFormat::S32));
+    assert_eq!(rt; set.bits, 0b10_0000_0001);
+    assert!(rt; set.both(FormatSet::all()).has(gray));
+    assert!(rt; !set.has(Format::Audio(SampleFormat::U8)));
 }

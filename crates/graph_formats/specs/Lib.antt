@@ -1,0 +1,4 @@
+pub mod Assignments
+pub mod Demands
+pub mod Walks
+pub mod Listings
