@@ -1,0 +1,16 @@
+pub mod Pushes
+pub mod Loops
+pub mod Changes
+pub mod Searches
+pub mod Sound
+pub mod Along
+pub mod Agreeing
+pub mod Rising
+pub mod LawLemmas
+pub mod Keeping
+pub mod Turning
+pub mod Answering
+pub mod Growing
+pub mod Lasts
+pub mod SlowLemmas
+pub mod Existence
