@@ -2,3 +2,15 @@ pub mod Rasters
 pub mod Geometries
 pub mod Frames
 pub mod Sources
+pub mod Streams
+pub mod FilterLaws
+pub mod Answers
+pub mod Histories
+pub mod Rules
+pub mod StreamLemmas
+pub mod HeldLaws
+pub mod EachLaws
+pub mod Whole
+pub mod OneLaws
+pub mod SmallFilters
+pub mod SmallFilterLaws

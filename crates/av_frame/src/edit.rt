@@ -92,6 +92,7 @@ impl Edit {
     {
         self.planes[plane as usize].part(row, 0, out);
     }
+
     /// Replaces one sample, by a value of 0 to 255.
     pub fn set(&mut self, plane: u32, row: u32, column: u32, value: i32)
         requires plane { plane < planes_of self.old.shape }
