@@ -1,0 +1,17 @@
+pub mod FractionLemmas
+mod ValueLemmas
+mod EvalLemmas
+mod RingLemmas
+mod ValueLaws
+mod VarLemmas
+mod Places
+mod AtomLemmas
+mod MarkLemmas
+mod AnswerLemmas
+mod ReadLemmas
+mod PartLaws
+mod AtomLaws
+mod GrammarLaws
+mod TreeLemmas
+mod ParseLemmas
+mod TotalLaws

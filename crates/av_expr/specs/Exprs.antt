@@ -1,0 +1,52 @@
+-- Whole texts: one sum, with at most 64 levels of signs and parentheses open at a place.
+use Rattle.std.specs.Prelude.{◌≡◌, ◌<◌, ◌+◌, ℕ, List, [], length, Result, Ok, Err}
+use Rattle.av_expr.specs.Trees.{Tree}
+use Rattle.av_expr.specs.Parts.{NoPart, Skips, Either}
+use Rattle.av_expr.specs.Grammar.{IsUnary, NoUnary, IsSum, NoSum}
+use Rattle.av_expr.specs.declared.vars.VarSet.{VarSet}
+use Rattle.av_expr.specs.declared.fault.ExprKind.{ExprKind}
+use Rattle.av_expr.specs.declared.fault.ExprKind.TheVariants.{Syntax}
+use Rattle.av_expr.specs.declared.fault.ExprFault.{ExprFault}
+use Rattle.av_expr.specs.declared.fault.ExprError.{ExprError}
+use Rattle.av_expr.specs.declared.fault.ExprError.TheVariants.{Fault, NoMemory}
+
+-- the text says this tree
+pub record IsExpr (allowed : VarSet) (text : List ℕ) (tree : Tree) : Type 0 where
+  pub start : List ℕ
+  pub skips : Skips text start
+  pub is_sum : IsSum (IsUnary allowed 64) start tree []
+
+-- something stands where the text should end
+abbrev pub IsBehind : NoPart
+IsBehind text kind bad = (kind ≡ Syntax) × (bad ≡ text) × (0 < length text)
+
+-- the text says no tree: the kind of its fault, and the text from its byte on
+pub record IsExprFault (allowed : VarSet) (text : List ℕ) (kind : ExprKind) (bad : List ℕ) : Type 0 where
+  pub start : List ℕ
+  pub skips : Skips text start
+  pub fails : Either (IsSum (IsUnary allowed 64)) (NoSum (IsUnary allowed 64) (NoUnary allowed 64)) IsBehind start kind bad
+
+-- the fault is of this kind, and `bad` is the text from its byte on
+pub record IsFaultAt (text : List ℕ) (kind : ExprKind) (bad : List ℕ) (f : ExprFault) : Type 0 where
+  pub kind_is : f.kind ≡ kind
+  pub at_is : f.at + length bad ≡ length text
+
+-- ---- what a call answers
+
+-- a fault of the text that was answered
+abbrev pub IfFault : {X : Type 0} → Result X ExprError → (ExprFault → Type 0) → Type 0
+IfFault (Ok x) P = Unit {0}
+IfFault (Err (Fault f)) P = P f
+IfFault (Err NoMemory) P = Unit {0}
+
+-- such a value, or want of memory
+abbrev pub Gives : {X : Type 0} → (X → Type 0) → Result X ExprError → Type 0
+Gives P (Ok x) = P x
+Gives P (Err (Fault f)) = ⊥
+Gives P (Err NoMemory) = Unit {0}
+
+-- such a fault, or want of memory
+abbrev pub Refuses : {X : Type 0} → (ExprFault → Type 0) → Result X ExprError → Type 0
+Refuses P (Ok x) = ⊥
+Refuses P (Err (Fault f)) = P f
+Refuses P (Err NoMemory) = Unit {0}

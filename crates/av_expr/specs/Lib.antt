@@ -1,0 +1,11 @@
+pub mod Vars
+pub mod Fractions
+pub mod Trees
+pub mod Values
+pub mod Parts
+pub mod Grammar
+pub mod Exprs
+pub mod Laws
+pub mod Reading
+pub mod Kept
+pub mod Nodes
