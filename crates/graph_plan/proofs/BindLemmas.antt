@@ -125,24 +125,7 @@ refuses draft files (Ok plan) p q f b = not_both draft files plan f p b
 refuses draft files (Err (Fault g)) p q f b = one_fault draft.opens files g f q b
 refuses draft files (Err NoMemory) p q f b = tt
 
--- ---- a walk over the pads
-
--- the first pad that is called so was met
-pub pad_met : (pads : List OpenOut) (name : Name) (place passed : ℕ) (p : OpenOut) → place < length pads → p ≡ get_or pads place p → passed ≡ number_at (λ (x : OpenOut). x.label) 0 pads place
-    → name_of p.label passed ≡ name → ((o : ℕ) → o < place → slice_get (pad_names pads) o ≡ Some name → ⊥) → IsPadOf pads name place
-pad_met pads name place passed p lt e numbered same none =
-    let at = name_at (λ (x : OpenOut). x.label) 0 pads place p (slice_get_read pads (length pads) place p refl lt e) in
-    record { holds = at ∙ (ap (λ (n : ℕ). Some (name_of p.label n)) (sym numbered) ∙ ap (λ (n : Name). Some n) same); least = none }
-
-pub pad_passed : (pads : List OpenOut) (name : Name) (place passed : ℕ) (p : OpenOut) → place < length pads → p ≡ get_or pads place p → passed ≡ number_at (λ (x : OpenOut). x.label) 0 pads place
-    → (name_of p.label passed ≡ name → ⊥) → ((o : ℕ) → o < place → slice_get (pad_names pads) o ≡ Some name → ⊥) → (o : ℕ) → o < place + 1 → slice_get (pad_names pads) o ≡ Some name → ⊥
-pad_passed pads name place passed p lt e numbered other none =
-    let at = name_at (λ (x : OpenOut). x.label) 0 pads place p (slice_get_read pads (length pads) place p refl lt e) in
-    let P : ℕ → Type 0 = λ o. slice_get (pad_names pads) o ≡ Some name → ⊥ in
-    below_more P place none (λ h. other (same_Some (name_of p.label passed) name (ap (λ (n : ℕ). Some (name_of p.label n)) numbered ∙ (sym at ∙ h))))
-
-pub no_pad : (pads : List OpenOut) (name : Name) (place : ℕ) → length pads ≤ place → ((o : ℕ) → o < place → slice_get (pad_names pads) o ≡ Some name → ⊥) → (o : ℕ) → slice_get (pad_names pads) o ≡ Some name → ⊥
-no_pad pads name place all none o h = none o (let lt = slice_get_within (pad_names pads) o name h in omega (arith, length-names (λ (x : OpenOut). x.label) 0 pads)) h
+-- ---- numbers along a list
 
 pub number_next : {X : Type 0} (label : X → Option (List ℕ)) (xs : List X) (place passed next : ℕ) (x : X) → place < length xs → x ≡ get_or xs place x → passed ≡ number_at label 0 xs place
     → next ≡ number_behind (label x) passed → passed ≤ place → (next ≤ place + 1) × (next ≡ number_at label 0 xs (place + 1))

@@ -1,26 +1,19 @@
 -- Labels and pads of a filter, and of the one before it in its chain.
-use Rattle.std.proofs.Common.{◌≡◌, ◌<◌, ◌≤◌, ◌+◌, ◌-◌, ◌⊎◌, ◌++◌, ℕ, List, Option, Some, None, length, take, get_or, sum_by, refl, sym, ◌∙◌, ap, subst, inl, inr, arith}
+use Rattle.std.proofs.Common.{◌≡◌, ◌<◌, ◌≤◌, ◌+◌, ◌-◌, ◌⊎◌, ◌++◌, ℕ, List, Some, None, length, take, get_or, sum_by, refl, sym, ◌∙◌, ap, subst, inl, inr, arith}
 use Rattle.std.specs.List.{slice_get}
 use Rattle.std.proofs.lemmas.Bool.{cases_lt}
 use Rattle.std.proofs.lemmas.List.{length-take-le, take_more}
-use Rattle.graph_plan.proofs.GraphLemmas.{places_push}
+use Rattle.graph_plan.proofs.GraphLemmas.{places_push, item_is}
 use Rattle.std.proofs.lemmas.Option.{same_Some, slice_get_within, slice_get_past, get_or_from_slice_get}
 use Rattle.graph_text.specs.declared.graph.FilterCall.{FilterCall}
 use Rattle.graph_plan.specs.declared.plan.Pads.{Pads}
 use Rattle.graph_plan.specs.declared.places.Side.{Side}
 use Rattle.graph_plan.specs.declared.places.Side.TheVariants.{In, Out}
-use Rattle.graph_plan.specs.Graphs.{Graph, item_of, places, places_of, labels, kinds, label, kind}
+use Rattle.graph_plan.specs.Graphs.{Graph, places, places_of, labels, kinds, kind}
 use Rattle.graph_plan.specs.Refusals.{HasMoreLabels, LacksInput, HasWrongPads, link_count}
 use Rattle.graph_plan.specs.Joining.{IsCounted}
 use Rattle.std.proofs.lemmas.List.Sums.{sum_by_more_le}
 use Rattle.graph_plan.proofs.ListLemmas.{get_within}
-
--- what stands at a place of a filter, where the filter's list is known
-pub kind_at : (graph : Graph) (side : Side) (filter pad : ℕ) (pads : Pads) → slice_get graph.pads filter ≡ Some pads → kind graph side filter pad ≡ slice_get (kinds side pads) pad
-kind_at graph side filter pad pads is = ap (λ (o : Option Pads). item_of (kinds side) o pad) is
-
-pub label_at : (graph : Graph) (side : Side) (filter pad : ℕ) (call : FilterCall) → slice_get graph.calls filter ≡ Some call → label graph side filter pad ≡ slice_get (labels side call) pad
-label_at graph side filter pad call is = ap (λ (o : Option FilterCall). item_of (labels side) o pad) is
 
 -- where nothing stands, the list is no longer
 past_none : {X : Type 0} (xs : List X) (k : ℕ) → slice_get xs k ≡ None → length xs ≤ k
@@ -50,9 +43,9 @@ module _ (graph : Graph) (before : ℕ) (first second : FilterCall) (gives takes
           giver_is = refl;
           taker_is = refl;
           gives = there.0;
-          is_there = kind_at graph Out before (length first.outs + nth) gives are_gives ∙ there.1;
+          is_there = item_is (kinds Out) graph.pads before (length first.outs + nth) gives are_gives ∙ there.1;
         };
-        missing = kind_at graph In (before + 1) (length second.ins + nth) takes are_takes ∙ slice_get_past takes.ins (length second.ins + nth) (omega arith);
+        missing = item_is (kinds In) graph.pads (before + 1) (length second.ins + nth) takes are_takes ∙ slice_get_past takes.ins (length second.ins + nth) (omega arith);
       }
 
   pub lacks_why : LacksInput graph (before + 1) → (first.chain ≡ second.chain) × (length (kinds In takes) - length (labels In second) < length (kinds Out gives) - length (labels Out first))
@@ -63,9 +56,9 @@ module _ (graph : Graph) (before : ℕ) (first second : FilterCall) (gives takes
       let one : n.first ≡ first = same_Some _ _ (sym n.is_first ∙ (ap (λ (k : ℕ). slice_get graph.calls k) at ∙ is_first)) in
       let two : n.second ≡ second = same_Some _ _ (sym n.is_second ∙ is_second) in
       let there : slice_get gives.outs is.giver.pad ≡ Some n.gives =
-      sym (kind_at graph Out before is.giver.pad gives are_gives) ∙ (ap (λ (k : ℕ). kind graph Out k is.giver.pad) (sym at) ∙ n.is_there) in
+      sym (item_is (kinds Out) graph.pads before is.giver.pad gives are_gives) ∙ (ap (λ (k : ℕ). kind graph Out k is.giver.pad) (sym at) ∙ n.is_there) in
       let within = slice_get_within gives.outs is.giver.pad n.gives there in
-      let past = past_none takes.ins is.pad (sym (kind_at graph In (before + 1) is.pad takes are_takes) ∙ is.missing) in
+      let past = past_none takes.ins is.pad (sym (item_is (kinds In) graph.pads (before + 1) is.pad takes are_takes) ∙ is.missing) in
       let giver = n.giver_is in
       let taker = n.taker_is in
       let outs : length n.first.outs ≡ length first.outs = ap (λ (c : FilterCall). length c.outs) one in

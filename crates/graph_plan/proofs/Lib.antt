@@ -5,6 +5,7 @@ mod RowLemmas
 mod ReachLemmas
 mod ArrangeLemmas
 mod BindLemmas
+mod CalledLemmas
 mod BoundLemmas
 mod GraphLemmas
 mod CountLemmas

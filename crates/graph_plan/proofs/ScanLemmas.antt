@@ -22,6 +22,13 @@ use Rattle.graph_plan.proofs.ListLemmas.{place_of, least_along}
 use Rattle.graph_plan.proofs.GraphLemmas.{neighbour_in, item_places, places_rise, labelled_is_there, joined_taker_is_there}
 use Rattle.graph_plan.proofs.TableLemmas.{not_lower}
 
+-- what is read past the end of a list of places, and of input pads with their origins
+abbrev pub no_place : Place
+no_place = record { filter = 0; pad = 0 }
+
+abbrev pub no_inlet : Inlet
+no_inlet = record { taker = no_place; origin = Pad no_place }
+
 -- the place of a filter's pad
 abbrev place_at : ℕ → ℕ → Place
 place_at filter pad = record { filter = filter; pad = pad }

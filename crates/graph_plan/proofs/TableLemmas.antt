@@ -1,5 +1,5 @@
 -- Tables of labels, as far as places were seen.
-use Rattle.std.proofs.Common.{◌≡◌, ◌<◌, ◌≤◌, ◌+◌, ◌++◌, ◌⊎◌, ℕ, List, [], ◌∷◌, Option, Some, None, true, length, refl, sym, ◌∙◌, ap, subst, inl, inr, arith, bytes_eq}
+use Rattle.std.proofs.Common.{◌≡◌, ◌<◌, ◌≤◌, ◌+◌, ◌++◌, ◌⊎◌, ℕ, List, [], ◌∷◌, Option, Some, None, true, false, length, refl, sym, ◌∙◌, ap, subst, inl, inr, arith, bytes_eq}
 use Rattle.std.specs.Prelude.{MatchOption}
 use Rattle.std.specs.List.{slice_get}
 use Rattle.std.specs.Option.{option_or, is_some}
@@ -24,6 +24,10 @@ use Rattle.graph_plan.proofs.ListLemmas.{place_of, cases_Option, least_along, pu
 pub some_found : {X : Type 0} (o : Option X) → is_some o ≡ true → (x : X) × (o ≡ Some x)
 some_found None is = absurd (cc)
 some_found (Some x) is = (x, refl)
+
+pub none_found : {X : Type 0} (o : Option X) → is_some o ≡ false → o ≡ None
+none_found None is = refl
+none_found (Some x) is = absurd (cc)
 
 pub found_some : {X : Type 0} (o : Option X) (x : X) → o ≡ Some x → is_some o ≡ true
 found_some o x is = ap is_some is

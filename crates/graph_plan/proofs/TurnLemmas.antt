@@ -27,18 +27,18 @@ use Rattle.graph_plan.proofs.JoinLemmas.{inlet_of, inlet_is}
 
 -- ---- marks
 
-marked_same : (taken : List Bool) (file : ℕ) → file < length taken → get_or (set taken file true) file false ≡ true
+pub marked_same : (taken : List Bool) (file : ℕ) → file < length taken → get_or (set taken file true) file false ≡ true
 marked_same taken file low = get_or-set_same taken file true false low
 
 -- what was marked stays so
-marked_stays : (taken : List Bool) (file other : ℕ) → file < length taken → get_or taken other false ≡ true → get_or (set taken file true) other false ≡ true
+pub marked_stays : (taken : List Bool) (file other : ℕ) → file < length taken → get_or taken other false ≡ true → get_or (set taken file true) other false ≡ true
 marked_stays taken file other low is = elim (cases_eq other file) [
   | inl same ↦ rw same (marked_same taken file low)
   | inr apart ↦ get_or-set_other taken file other true false apart ∙ is
 ]
 
 -- what is marked was marked, or is the file
-marked_why : (taken : List Bool) (file other : ℕ) → get_or (set taken file true) other false ≡ true → (get_or taken other false ≡ true) ⊎ (other ≡ file)
+pub marked_why : (taken : List Bool) (file other : ℕ) → get_or (set taken file true) other false ≡ true → (get_or taken other false ≡ true) ⊎ (other ≡ file)
 marked_why taken file other is = elim (cases_eq other file) [
   | inl same ↦ inr same
   | inr apart ↦ inl (sym (get_or-set_other taken file other true false apart) ∙ is)

@@ -1,34 +1,21 @@
 //! Binding of output files to open output pads.
-ghost use Rattle.std.specs.Prelude.{◌≡◌, ◌≢◌, ◌<◌, ◌≤◌, ◌^◌, ◌↔◌, ◌++◌, ℕ, List, Some, length, IsTrue, IfOk, IfSome, IsNone};
-ghost use Rattle.std.specs.List.{slice_get, Contains};
-ghost use Rattle.graph_plan.specs.Bindings.{name_of, number_behind, pad_names, IsPadOf, IsUnmapped, CannotTake, TakesWrong, IsBindFault, IsBound, IfFault, Gives, Refuses};
+ghost use Rattle.std.specs.Prelude.{◌≡◌, ◌<◌, ◌^◌, ◌↔◌, ◌++◌, ◌∷◌, [], ℕ, List, Some, true, length, set, IsTrue, IfOk, IfSome, IsNone};
+ghost use Rattle.std.specs.List.{slice_get};
+ghost use Rattle.graph_plan.specs.Bindings.{Name, name_of, number_behind, IsUnmapped, CannotTake, TakesWrong, IsBindFault, IsBound, IfFault, Gives, Refuses};
 ghost use Rattle.graph_plan.specs.Least.{IsLeast};
-ghost use Rattle.graph_plan.specs.Places.{AreFound, IsLeft, AreLinks};
+ghost use Rattle.graph_plan.specs.Places.{pad_called, AreFound, MarksThese, AreLinks};
+ghost use Rattle.graph_plan.specs.Arranging.{IsMarked};
+ghost use Rattle.graph_plan.specs.declared.called.PadTable.{PadTable};
 ghost use Rattle.graph_plan.specs.declared.plan.Edge.{Edge};
 ghost use Rattle.graph_plan.specs.declared.plan.Plan.{Plan};
 ghost use Rattle.graph_plan.specs.declared.plan.PlanFault.{PlanFault};
 
+use crate::called::{PadTable, index_opens};
 use crate::plan::{
     DraftPlan, Edge, Ending, OpenOut, OutputFile, Plan, PlanError, PlanFault, Source, Target,
 };
 use av_base::{List, Media, Text};
 use std::alloc::Global;
-
-/// Whether two are called the same: by their labels, or where both have none, by their numbers.
-fn is_same_name(
-    label: &Option<Text>,
-    number: usize,
-    other: &Option<Text>,
-    other_number: usize,
-) -> bool
-    ensures { IsTrue result ↔ (name_of label.now number ≡ name_of other.now other_number) }
-{
-    match (label, other) {
-        (Some(label), Some(other)) => label.as_str() == other.as_str(),
-        (None, None) => number == other_number,
-        _ => false,
-    }
-}
 
 /// The number of the next one without a label.
 fn next_number(label: &Option<Text>, number: usize) -> usize
@@ -41,70 +28,76 @@ fn next_number(label: &Option<Text>, number: usize) -> usize
     }
 }
 
-/// The place of the first pad that is called so.
-fn find_pad(pads: &[OpenOut], label: &Option<Text>, number: usize) -> Option<usize>
-    ensures found { IfSome result (IsPadOf pads.now (name_of label.now number)) }
-    ensures none { IsNone result → (o : ℕ) → slice_get (pad_names pads.now) o ≢ Some (name_of label.now number) }
+/// The place of the pad that is called so, where it isn't taken yet.
+fn find_free(table: &PadTable, marks: &[bool], label: &Option<Text>, number: usize) -> Option<usize>
+    requires { (name : Name) → IfSome (pad_called table.now name) (λ o. o < length marks.now) }
+    ensures free { IfSome result (λ o. (pad_called table.now (name_of label.now number) ≡ Some o) × ¬ IsMarked marks.now o) }
+    ensures none { IsNone result → (o : ℕ) → pad_called table.now (name_of label.now number) ≡ Some o → IsMarked marks.now o }
 {
-    let mut passed = 0;
-    'pads: for (place, pad) in pads.iter().enumerate() {
-        if is_same_name(&pad.label, passed, label, number) {
-            return Some(place);
-        }
-        passed = next_number(&pad.label, passed);
-    }
-    None
-}
-
-/// The place of the first pad that is called so, where it isn't taken yet.
-fn find_free(
-    pads: &[OpenOut],
-    taken: &[usize],
-    label: &Option<Text>,
-    number: usize,
-) -> Option<usize>
-    ensures found { IfSome result (IsPadOf pads.now (name_of label.now number)) }
-    ensures free { IfSome result (λ o. ¬ Contains taken.now o) }
-    ensures none { IsNone result → (o : ℕ) → IsPadOf pads.now (name_of label.now number) o → Contains taken.now o }
-{
-    let place = find_pad(pads, label, number)?;
-    if taken.contains(&place) {
+    let Some(place) = table.find(label, number) else {
+        return None;
+    };
+    if marks[place] {
         return None;
     }
     Some(place)
 }
 
-/// For each file, the place of the pad that it takes.
-fn find_places(
-    alloc: Global,
-    pads: &[OpenOut],
-    files: &[OutputFile],
-) -> Result<Vec<usize>, PlanError>
+/// What the files take: for each file the place of its pad, and which pads are taken.
+#[derive(Drop)]
+pub(crate) struct Taken {
+    /// The place of each file's pad.
+    pub(crate) places: Vec<usize>,
+    /// Whether each pad is taken.
+    pub(crate) marks: Vec<bool>,
+}
+
+impl Taken {
+    /// Takes the pad at a place for the next file.
+    fn push(&mut self, place: usize) -> Result<(), PlanError>
+        requires { place < length self.old.marks.items }
+        ensures places { IfOk result (λ _. self.new.places.items ≡ self.old.places.items ++ place ∷ []) }
+        ensures marks { IfOk result (λ _. self.new.marks.items ≡ set self.old.marks.items place true) }
+        ensures fault { IfFault result (λ f. ⊥) }
+    {
+        self.places.push(place)?;
+        self.marks[place] = true;
+        Ok(())
+    }
+}
+
+/// The pads that the files take.
+fn take_pads(alloc: Global, pads: &[OpenOut], files: &[OutputFile]) -> Result<Taken, PlanError>
     requires { length files.now < 2 ^ 32 }
-    ensures found { IfOk result (λ places. AreFound pads.now files.now places.items) }
-    ensures each { IfOk result (λ places. length places.items ≡ length files.now) }
+    ensures found { IfOk result (λ taken. AreFound pads.now files.now taken.places.items) }
+    ensures each { IfOk result (λ taken. length taken.places.items ≡ length files.now) }
+    ensures marked { IfOk result (λ taken. MarksThese (length pads.now) taken.places.items taken.marks.items) }
     ensures fault { IfFault result (IsBindFault pads.now files.now) }
 {
-    let mut places = Vec::new(alloc);
+    let table = index_opens(alloc, pads)?;
+    let mut taken = Taken {
+        places: Vec::new(alloc),
+        marks: vec![in alloc; false; pads.len()]?,
+    };
     let mut number = 0;
     'files: for (output, file) in files.iter().enumerate() {
-        let Some(place) = find_free(pads, places.as_slice(), &file.label, number) else {
+        let Some(place) = find_free(&table, taken.marks.as_slice(), &file.label, number) else {
             let output = output as u32;
             return Err(PlanError::Fault(PlanFault::NoSuchOutput { output }));
         };
-        places.push(place)?;
+        taken.push(place)?;
         number = next_number(&file.label, number);
     }
-    Ok(places)
+    Ok(taken)
 }
 
-/// The first of so many places that isn't among these.
-fn first_left(places: &[usize], count: usize) -> Option<usize>
-    ensures left { IfSome result (IsLeast (IsLeft places.now count)) }
-    ensures none { IsNone result → (o : ℕ) → o < count → Contains places.now o }
+/// The first that isn't marked.
+fn first_left(marks: &[bool]) -> Option<usize>
+    ensures left { IfSome result (IsLeast (λ o. (o < length marks.now) × ¬ IsMarked marks.now o)) }
+    ensures none { IsNone result → (o : ℕ) → o < length marks.now → IsMarked marks.now o }
 {
-    'places: for place in 0..count {
-        if !places.contains(&place) {
+    'marks: for (place, marked) in marks.iter().enumerate() {
+        if !*marked {
             return Some(place);
         }
     }
@@ -137,20 +130,21 @@ fn first_wrong(pads: &[OpenOut], files: &[OutputFile], places: &[usize]) -> Opti
 }
 
 /// Checks that each pad is taken, and that each file can take what its pad gives.
-fn check_places(pads: &[OpenOut], files: &[OutputFile], places: &[usize]) -> Result<(), PlanError>
-    requires found { AreFound pads.now files.now places.now }
-    requires each { length places.now ≡ length files.now }
+fn check_taken(pads: &[OpenOut], files: &[OutputFile], taken: &Taken) -> Result<(), PlanError>
+    requires found { AreFound pads.now files.now taken.now.places.items }
+    requires each { length taken.now.places.items ≡ length files.now }
+    requires marked { MarksThese (length pads.now) taken.now.places.items taken.now.marks.items }
     requires few { length files.now < 2 ^ 32 }
     ensures mapped { IfOk result (λ _. (o : ℕ) → ¬ IsUnmapped pads.now files.now o) }
     ensures fit { IfOk result (λ _. (k : ℕ) → ¬ TakesWrong pads.now files.now k) }
     ensures fault { IfFault result (IsBindFault pads.now files.now) }
 {
-    if let Some(place) = first_left(places, pads.len()) {
+    if let Some(place) = first_left(taken.marks.as_slice()) {
         let left = &pads[place];
         let (filter, pad) = (left.filter, left.pad);
         return Err(PlanError::Fault(PlanFault::Unmapped { filter, pad }));
     }
-    if let Some(output) = first_wrong(pads, files, places) {
+    if let Some(output) = first_wrong(pads, files, taken.places.as_slice()) {
         let output = output as u32;
         return Err(PlanError::Fault(PlanFault::WrongKind { output }));
     }
@@ -206,9 +200,9 @@ impl DraftPlan {
         } = self;
         let pads = opens.as_slice();
         let files = outputs.as_slice();
-        let places = find_places(alloc, pads, files)?;
-        check_places(pads, files, places.as_slice())?;
-        let links = push_outputs(links.into_vec(), pads, places.as_slice())?;
+        let taken = take_pads(alloc, pads, files)?;
+        check_taken(pads, files, &taken)?;
+        let links = push_outputs(links.into_vec(), pads, taken.places.as_slice())?;
         let links = List::new(links);
         Ok(Plan { links, order })
     }

@@ -2,6 +2,7 @@
 #![tactic(auto)]
 
 mod bind;
+mod called;
 mod counts;
 mod labels;
 mod law;

@@ -1,17 +1,12 @@
 use Rattle.std.proofs.Common.{◌+◌, ◌++◌, ◌↔◌, ◌∷◌, [], ℕ, List, take, sym, ◌∙◌, ap, subst}
 use Rattle.std.proofs.lemmas.List.{take_all}
-use Rattle.graph_plan.specs.declared.origins.Origin.TheVariants.{Pad}
-use Rattle.graph_plan.specs.declared.origins.Inlet.{Inlet}
 use Rattle.graph_plan.specs.declared.plan.Edge.{Edge}
 use Rattle.graph_plan.specs.Orders.{Feeds}
 use Rattle.graph_plan.specs.Joining.{IsJoinedBy}
 use Rattle.graph_plan.proofs.JoinLemmas.{joined_same, joined_more}
 use Rattle.graph_plan.proofs.linking.list_joined.Goals.{in-Some+in_ok-push, in_default}
+use Rattle.graph_plan.proofs.ScanLemmas.{no_inlet}
 use Rattle.graph_plan.proofs.linking.list_joined.Goals as goal
-
--- what is read past the end of a list of inlets
-abbrev no_inlet : Inlet
-no_inlet = record { taker = record { filter = 0; pad = 0 }; origin = Pad (record { filter = 0; pad = 0 }) }
 
 pub inlets-preserved : goal.inlets-preserved
 inlets-preserved c =

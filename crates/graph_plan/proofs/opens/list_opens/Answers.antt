@@ -9,11 +9,8 @@ use Rattle.graph_plan.specs.Links.{AreLeft}
 use Rattle.graph_plan.specs.Joining.{graph_of}
 use Rattle.graph_plan.proofs.GraphLemmas.{places_item}
 use Rattle.graph_plan.proofs.OpenLemmas.{left_more}
+use Rattle.graph_plan.proofs.ScanLemmas.{no_place}
 use Rattle.graph_plan.proofs.opens.list_opens.Goals as goal
-
--- what is read past the end of a list of places
-abbrev no_place : Place
-no_place = record { filter = 0; pad = 0 }
 
 pub push_left-requires-clause-there : goal.push_left-requires-clause-there
 push_left-requires-clause-there c =

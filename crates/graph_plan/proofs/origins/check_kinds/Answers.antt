@@ -1,13 +1,7 @@
 use Rattle.std.proofs.Common.{refl, arith}
-use Rattle.graph_plan.specs.declared.origins.Origin.TheVariants.{Pad}
-use Rattle.graph_plan.specs.declared.origins.Inlet.{Inlet}
 use Rattle.graph_plan.specs.Joining.{graph_of, IsMismatched}
-use Rattle.graph_plan.proofs.ScanLemmas.{scan_first, scan_more, scan_none, mismatch_listed, least_mismatch, never_mismatch, taker_at, inlet_count}
+use Rattle.graph_plan.proofs.ScanLemmas.{scan_first, scan_more, scan_none, mismatch_listed, least_mismatch, never_mismatch, taker_at, inlet_count, no_inlet}
 use Rattle.graph_plan.proofs.origins.check_kinds.Goals as goal
-
--- what is read past the end of a list of inlets
-abbrev no_inlet : Inlet
-no_inlet = record { taker = record { filter = 0; pad = 0 }; origin = Pad (record { filter = 0; pad = 0 }) }
 
 pub returns-then-is_mismatched-clause-fault : goal.returns-then-is_mismatched-clause-fault
 returns-then-is_mismatched-clause-fault c outputs few =

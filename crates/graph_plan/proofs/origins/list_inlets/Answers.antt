@@ -5,12 +5,8 @@ use Rattle.graph_plan.specs.declared.places.Place.{Place}
 use Rattle.graph_plan.specs.declared.places.Side.TheVariants.{In}
 use Rattle.graph_plan.specs.Joining.{graph_of, IsUnknown}
 use Rattle.graph_plan.proofs.CountLemmas.{pads_few}
-use Rattle.graph_plan.proofs.ScanLemmas.{scan_first, scan_none, unknown_listed, least_unknown, never_unknown, inlets_none, inlets_more, inlets_all}
+use Rattle.graph_plan.proofs.ScanLemmas.{scan_first, scan_none, unknown_listed, least_unknown, never_unknown, inlets_none, inlets_more, inlets_all, no_place}
 use Rattle.graph_plan.proofs.origins.list_inlets.Goals as goal
-
--- what is read past the end of a list of places
-abbrev no_place : Place
-no_place = record { filter = 0; pad = 0 }
 
 pub pad_places-requires-clause-each : goal.pad_places-requires-clause-each
 pad_places-requires-clause-each c = pads_few (graph_of c.args.parts.now) c.requires.fit.counted In

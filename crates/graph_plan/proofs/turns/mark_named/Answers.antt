@@ -1,14 +1,9 @@
 use Rattle.std.proofs.Common.{◌∙◌, length, ap, sym}
 use Rattle.std.proofs.lemmas.List.{take_all}
-use Rattle.graph_plan.specs.declared.origins.Origin.TheVariants.{Pad}
-use Rattle.graph_plan.specs.declared.origins.Inlet.{Inlet}
 use Rattle.graph_plan.proofs.ListLemmas.{lent}
 use Rattle.graph_plan.proofs.TurnLemmas.{named_more, named_within}
+use Rattle.graph_plan.proofs.ScanLemmas.{no_inlet}
 use Rattle.graph_plan.proofs.turns.mark_named.Goals as goal
-
--- what is read past the end of a list of inlets
-abbrev no_inlet : Inlet
-no_inlet = record { taker = record { filter = 0; pad = 0 }; origin = Pad (record { filter = 0; pad = 0 }) }
 
 pub mark_file-requires : goal.mark_file-requires
 mark_file-requires c =

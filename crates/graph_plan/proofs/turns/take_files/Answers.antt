@@ -1,15 +1,10 @@
 use Rattle.std.proofs.Common.{◌∙◌, length, take, get_or, ap}
 use Rattle.std.proofs.lemmas.List.{take_more}
-use Rattle.graph_plan.specs.declared.origins.Origin.TheVariants.{Pad}
-use Rattle.graph_plan.specs.declared.origins.Inlet.{Inlet}
 use Rattle.graph_plan.specs.Joining.{graph_of}
 use Rattle.graph_plan.proofs.ListLemmas.{lent}
 use Rattle.graph_plan.proofs.TurnLemmas.{taken_none, input_within, so_far_none, so_far_more, kind_there, fails_at, links_all}
+use Rattle.graph_plan.proofs.ScanLemmas.{no_inlet}
 use Rattle.graph_plan.proofs.turns.take_files.Goals as goal
-
--- what is read past the end of a list of inlets
-abbrev no_inlet : Inlet
-no_inlet = record { taker = record { filter = 0; pad = 0 }; origin = Pad (record { filter = 0; pad = 0 }) }
 
 pub inlets-init : goal.inlets-init
 inlets-init c =
