@@ -5,7 +5,7 @@ use Rattle.av_text.specs.Classes.{is_digit, is_name, is_letter, Stops, IsRun}
 use Rattle.av_text.proofs.Runs.{same_run}
 use Rattle.av_expr.specs.Trees.{Tree, Number, Variable}
 use Rattle.av_expr.specs.Fractions.{IsReduced}
-use Rattle.av_expr.specs.Parts.{Lacks}
+use Rattle.av_text.specs.Parts.{Lacks}
 use Rattle.av_expr.specs.Grammar.{IsNumber, IsNineteenth, NoDigits, NoNumber, IsName, IsVariable, NoVariable, IsAtom, NoAtom, opens, begins}
 use Rattle.av_expr.specs.Reading.{BeginsNumber, BeginsName}
 use Rattle.av_expr.specs.declared.vars.Var.{Var}
@@ -15,8 +15,9 @@ use Rattle.av_expr.specs.declared.fault.ExprKind.{ExprKind}
 use Rattle.av_expr.specs.declared.fault.ExprKind.TheVariants.{Syntax}
 use Rattle.av_expr.proofs.EvalLemmas.{cons_parts}
 use Rattle.av_expr.proofs.FractionLemmas.{one_fraction}
-use Rattle.av_expr.proofs.Places.{skip_same}
-use Rattle.av_expr.proofs.PartLaws.{Lawful, some_same, one_or_other, wrapped}
+use Rattle.av_text.proofs.Places.{skip_same}
+use Rattle.av_text.proofs.PartLaws.{Lawful, one_or_other, wrapped}
+use Rattle.av_expr.proofs.PartLaws.{some_same}
 
 no_run : (p : ℕ → Bool) {text : List ℕ} → Stops p text → IsRun p text [] text
 no_run p stops = record { text_is = refl; each = tt; whole = stops }

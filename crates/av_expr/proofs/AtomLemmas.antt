@@ -11,12 +11,12 @@ use Rattle.std.proofs.lemmas.Int.Digits.{digits_value_more, digits_value-lt}
 use Rattle.std.proofs.lemmas.List.{length-append, length-drop, length-take}
 use Rattle.std.proofs.lemmas.Str.{digit_value_digit}
 use Rattle.av_text.specs.Classes.{is_digit, Stops, IsRun}
-use Rattle.av_expr.specs.Parts.{Lacks}
+use Rattle.av_text.specs.Parts.{Lacks}
 use Rattle.av_expr.specs.Grammar.{IsNineteenth, NoDigits, NoNumber}
 use Rattle.av_expr.specs.Reading.{FailsAt, BeginsNumber, BeginsName}
 use Rattle.av_expr.specs.declared.fault.ExprFault.{ExprFault}
 use Rattle.av_expr.specs.declared.fault.ExprKind.TheVariants.{Syntax}
-use Rattle.av_expr.proofs.Places.{later_rest}
+use Rattle.av_text.proofs.Places.{later_rest}
 
 -- ---- digits
 

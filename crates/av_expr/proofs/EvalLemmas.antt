@@ -1,12 +1,12 @@
 -- Evaluation of a tree by its list of nodes.
-use Rattle.std.proofs.Common.{◌≡◌, ◌≤◌, ◌+◌, suc, List, [], ◌∷◌, ◌++◌, length, get_or, drop, refl, sym, ◌∙◌, ap, subst, arith, inl, inr, append_assoc, ◌⊎◌}
+use Rattle.std.proofs.Common.{◌≡◌, ◌≤◌, ◌+◌, suc, List, [], ◌∷◌, ◌++◌, length, get_or, drop, refl, sym, ap, subst, arith, inl, inr, append_assoc, ◌⊎◌}
 use Rattle.std.specs.List.{AllByRecursion}
 use Rattle.std.proofs.lemmas.List.{append-nil}
 use Rattle.av_expr.specs.Fractions.{IsLowest}
 use Rattle.av_expr.specs.Trees.{Tree, Number, Variable, Negation, Binary, postfix, HasLowest}
 use Rattle.av_expr.specs.Kept.{joined, width}
 use Rattle.av_expr.specs.Values.{AreLowest, IsValue, HasNone}
-use Rattle.av_expr.specs.Nodes.{HasRoom, IsNodeStep, IsNodeFault}
+use Rattle.av_expr.specs.Nodes.{HasRoom, IsNodeFault}
 use Rattle.av_expr.specs.declared.fraction.Fraction.{Fraction}
 use Rattle.av_expr.specs.declared.expr.Node.{Node}
 use Rattle.av_expr.specs.declared.expr.Node.TheVariants as node
@@ -88,18 +88,6 @@ stands_first values (t ∷ trees) [] rest a h same = absurd h
 stands_first values (t ∷ trees) (v ∷ row) rest a h same =
     let parts = cons_parts same in (t, trees, refl, h.0, subst (IsValue values t) parts.0 h.1, subst (Stands values trees) parts.1 h.2)
 
--- one more node
-pub stands_step : (values : List Fraction) (n : Node) (trees : List Tree) (row next : List Fraction) → Stands values trees row → NumberLowest n → IsNodeStep values n row next → Stands values (joined n trees) next
-stands_step values (node.Number f) trees row next h lowest step = rw step (lowest, refl, h)
-stands_step values (node.Variable x) trees row next h lowest step = rw step (tt, refl, h)
-stands_step values node.Negation trees row next h lowest step =
-    let first = stands_first values trees row step.2 step.0 h step.3 in
-    rw (first.2, step.5) (first.3, (step.0, first.4, step.4), first.5)
-stands_step values (node.Binary op) trees row next h lowest step =
-    let first = stands_first values trees row (step.0 ∷ step.3) step.1 h step.4 in
-    let second = stands_first values first.1 (step.0 ∷ step.3) step.3 step.0 first.5 refl in
-    rw (first.2, second.2, step.6) ((second.3, first.3), (step.0, step.1, second.4, first.4, step.5), second.5)
-
 -- ---- a row in which a tree has no value
 
 abbrev Valued : List Fraction → List Tree → Type 0
@@ -151,9 +139,3 @@ fault_fails values reason (node.Binary op) trees row h fault =
 pub fault_whole : (values : List Fraction) (reason : NoValue) (n : Node) (ns : List Node) (trees : List Tree) (row : List Fraction) (goal : Tree)
     → Stands values trees row → Builds trees (n ∷ ns) goal → IsNodeFault values n row reason → HasNone values goal reason
 fault_whole values reason n ns trees row goal h builds fault = fails_whole values reason ns (joined n trees) goal builds.2 (fault_fails values reason n trees row h fault)
-
--- the last value
-pub last_value : (values : List Fraction) (trees : List Tree) (row rest : List Fraction) (v : Fraction) (goal : Tree) → Stands values trees row → Builds trees [] goal → row ≡ v ∷ rest → IsValue values goal v
-last_value values trees row rest v goal h builds same =
-    let first = stands_first values trees row rest v h same in
-    subst (λ (t : Tree). IsValue values t v) (cons_parts (sym first.2 ∙ builds)).0 first.4

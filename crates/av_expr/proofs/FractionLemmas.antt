@@ -10,7 +10,8 @@ use borrow.Author.Differences.{up, down, same_in}
 use Rattle.std.proofs.lemmas.Int.{ints, unsigned_abs-mul, fits_signed_from_abs}
 use Rattle.std.proofs.lemmas.Nat.Gcd.{same_from_IsGcd, dvd_refl}
 use Prim.Native.Nat.{◌∣◌}
-use Rattle.av_expr.specs.Fractions.{Fits, AreFitting, IsLowest, IsReduced, IsCut, IsNegated, signed_of, DividesByZero, below}
+use Rattle.av_base.specs.Numbers.{signed_of}
+use Rattle.av_expr.specs.Fractions.{Fits, AreFitting, IsLowest, IsReduced, IsCut, IsNegated, DividesByZero, below}
 use Rattle.av_expr.specs.declared.fraction.Operator.{Operator}
 use Rattle.av_expr.specs.declared.fraction.Operator.TheVariants.{Plus, Minus, Times, Over}
 use Rattle.av_expr.specs.declared.fraction.Fraction.{Fraction}

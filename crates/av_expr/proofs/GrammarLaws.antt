@@ -2,20 +2,22 @@
 use Rattle.std.proofs.Common.{◌≡◌, ◌==◌, ◌||◌, ◌⊎◌, ℕ, zero, suc, Bool, false, true, List, [], ◌∷◌, length, refl, sym, ◌∙◌, ap, subst, inl, inr, arith, eqb-true}
 use Rattle.av_text.specs.Classes.{is_name, Stops}
 use Rattle.av_expr.specs.Trees.{Tree, Negation}
-use Rattle.av_expr.specs.Parts.{Part, NoPart, Either, IsMark, Lacks}
+use Rattle.av_text.specs.Parts.{Part, NoPart, Either, Lacks}
+use Rattle.av_expr.specs.Parts.{IsMark}
 use Rattle.av_expr.specs.Grammar.{IsAtom, NoAtom, opens, begins, additive, multiplicative, IsSum, NoSum, IsSigned, NoSigned, IsGroup, NoGroup, IsUnary, NoUnary, IsTooDeep}
 use Rattle.av_expr.specs.Exprs.{IsExpr, IsExprFault, IsBehind}
 use Rattle.av_expr.specs.Reading.{BeginsNumber, BeginsName}
 use Rattle.av_expr.specs.declared.vars.VarSet.{VarSet}
 use Rattle.av_expr.specs.declared.fault.ExprKind.{ExprKind}
 use Rattle.av_expr.proofs.EvalLemmas.{cons_parts}
-use Rattle.av_expr.proofs.Places.{skip_same}
-use Rattle.av_expr.proofs.PartLaws.{Lawful, mark_same, mark_lacks, chain_law, one_or_other}
+use Rattle.av_text.proofs.Places.{skip_same}
+use Rattle.av_text.proofs.PartLaws.{Lawful, one_or_other}
+use Rattle.av_expr.proofs.PartLaws.{mark_same, mark_lacks, chain_law}
 use Rattle.av_expr.proofs.AtomLaws.{atom_law, number_begins, no_number_begins, name_begins, digit_names}
 
 -- ---- sums
 
-pub sum_law : {P : Part Tree} {F : NoPart} → Lawful P F → Lawful (IsSum P) (NoSum P F)
+pub sum_law : {P : Part Tree} {F : NoPart ExprKind} → Lawful P F → Lawful (IsSum P) (NoSum P F)
 sum_law {P} {F} law = chain_law additive (chain_law multiplicative law)
 
 -- ---- signs
@@ -23,7 +25,7 @@ sum_law {P} {F} law = chain_law additive (chain_law multiplicative law)
 marks_apart : (m n : ℕ) {text r s : List ℕ} → (m ≡ n → ⊥) → IsMark m text r → IsMark n text s → ⊥
 marks_apart m n apart a b = apart (mark_same a b).0
 
-signed_same : {P : Part Tree} {F : NoPart} → Lawful P F → {text r s : List ℕ} {x y : Tree} → IsSigned P text x r → IsSigned P text y s → (x ≡ y) × (r ≡ s)
+signed_same : {P : Part Tree} {F : NoPart ExprKind} → Lawful P F → {text r s : List ℕ} {x y : Tree} → IsSigned P text x r → IsSigned P text y s → (x ≡ y) × (r ≡ s)
 signed_same {P} {F} law {text} {r} {s} {x} {y} (u, inl a) (v, inl b) = law.same (subst (λ (t : List ℕ). P t x r) (mark_same a.0 b.0).1 a.1) b.1
 signed_same {P} {F} law {text} {r} {s} {x} {y} (u, inl a) (v, inr b) = absurd (marks_apart 43 45 (λ e. omega arith) a.0 b.2)
 signed_same {P} {F} law {text} {r} {s} {x} {y} (u, inr a) (v, inl b) = absurd (marks_apart 45 43 (λ e. omega arith) a.2 b.0)
@@ -31,24 +33,24 @@ signed_same {P} {F} law {text} {r} {s} {x} {y} (u, inr a) (v, inr b) =
     let operand = law.same (subst (λ (t : List ℕ). P t a.0 r) (mark_same a.2 b.2).1 a.3) b.3 in
     (a.1 ∙ ap Negation operand.0 ∙ sym b.1, operand.1)
 
-signed_fault : {P : Part Tree} {F : NoPart} → Lawful P F → {text r s : List ℕ} {k l : ExprKind} → NoSigned F text k r → NoSigned F text l s → (k ≡ l) × (r ≡ s)
+signed_fault : {P : Part Tree} {F : NoPart ExprKind} → Lawful P F → {text r s : List ℕ} {k l : ExprKind} → NoSigned F text k r → NoSigned F text l s → (k ≡ l) × (r ≡ s)
 signed_fault {P} {F} law {text} {r} {s} {k} {l} (u, inl m, a) (v, inl n, b) = law.fault (subst (λ (t : List ℕ). F t k r) (mark_same m n).1 a) b
 signed_fault {P} {F} law {text} {r} {s} {k} {l} (u, inl m, a) (v, inr n, b) = absurd (marks_apart 43 45 (λ e. omega arith) m n)
 signed_fault {P} {F} law {text} {r} {s} {k} {l} (u, inr m, a) (v, inl n, b) = absurd (marks_apart 45 43 (λ e. omega arith) m n)
 signed_fault {P} {F} law {text} {r} {s} {k} {l} (u, inr m, a) (v, inr n, b) = law.fault (subst (λ (t : List ℕ). F t k r) (mark_same m n).1 a) b
 
-signed_apart : {P : Part Tree} {F : NoPart} → Lawful P F → {text r s : List ℕ} {x : Tree} {k : ExprKind} → IsSigned P text x r → NoSigned F text k s → ⊥
+signed_apart : {P : Part Tree} {F : NoPart ExprKind} → Lawful P F → {text r s : List ℕ} {x : Tree} {k : ExprKind} → IsSigned P text x r → NoSigned F text k s → ⊥
 signed_apart {P} {F} law {text} {r} {s} {x} {k} (u, inl a) (v, inl n, b) = law.apart a.1 (subst (λ (t : List ℕ). F t k s) (mark_same n a.0).1 b)
 signed_apart {P} {F} law {text} {r} {s} {x} {k} (u, inl a) (v, inr n, b) = marks_apart 43 45 (λ e. omega arith) a.0 n
 signed_apart {P} {F} law {text} {r} {s} {x} {k} (u, inr a) (v, inl n, b) = marks_apart 45 43 (λ e. omega arith) a.2 n
 signed_apart {P} {F} law {text} {r} {s} {x} {k} (u, inr a) (v, inr n, b) = law.apart a.3 (subst (λ (t : List ℕ). F t k s) (mark_same n a.2).1 b)
 
-signed_law : {P : Part Tree} {F : NoPart} → Lawful P F → Lawful (IsSigned P) (NoSigned F)
+signed_law : {P : Part Tree} {F : NoPart ExprKind} → Lawful P F → Lawful (IsSigned P) (NoSigned F)
 signed_law {P} {F} law = record { same = λ a b. signed_same law a b; fault = λ a b. signed_fault law a b; apart = λ a b. signed_apart law a b }
 
 -- ---- parentheses
 
-group_fault : {P : Part Tree} {F : NoPart} → Lawful (IsSum P) (NoSum P F) → {text r s : List ℕ} {k l : ExprKind} → NoGroup P F text k r → NoGroup P F text l s → (k ≡ l) × (r ≡ s)
+group_fault : {P : Part Tree} {F : NoPart ExprKind} → Lawful (IsSum P) (NoSum P F) → {text r s : List ℕ} {k l : ExprKind} → NoGroup P F text k r → NoGroup P F text l s → (k ≡ l) × (r ≡ s)
 group_fault {P} {F} law {text} {r} {s} {k} {l} (u, m, inl a) (v, n, inl b) = law.fault (subst (λ (t : List ℕ). NoSum P F t k r) (mark_same m n).1 a) b
 group_fault {P} {F} law {text} {r} {s} {k} {l} (u, m, inl a) (v, n, inr b) = absurd (law.apart b.2 (subst (λ (t : List ℕ). NoSum P F t k r) (mark_same m n).1 a))
 group_fault {P} {F} law {text} {r} {s} {k} {l} (u, m, inr a) (v, n, inl b) = absurd (law.apart a.2 (subst (λ (t : List ℕ). NoSum P F t l s) (mark_same n m).1 b))
@@ -56,18 +58,18 @@ group_fault {P} {F} law {text} {r} {s} {k} {l} (u, m, inr a) (v, n, inr b) =
     let inside = law.same (subst (λ (t : List ℕ). IsSum P t a.0 a.1) (mark_same m n).1 a.2) b.2 in
     (a.3.0 ∙ sym b.3.0, a.3.1 ∙ inside.1 ∙ sym b.3.1)
 
-group_apart : {P : Part Tree} {F : NoPart} → Lawful (IsSum P) (NoSum P F) → {text r s : List ℕ} {x : Tree} {k : ExprKind} → IsGroup P text x r → NoGroup P F text k s → ⊥
+group_apart : {P : Part Tree} {F : NoPart ExprKind} → Lawful (IsSum P) (NoSum P F) → {text r s : List ℕ} {x : Tree} {k : ExprKind} → IsGroup P text x r → NoGroup P F text k s → ⊥
 group_apart {P} {F} law {text} {r} {s} {x} {k} a (v, n, inl b) = law.apart a.3 (subst (λ (t : List ℕ). NoSum P F t k s) (mark_same n a.2).1 b)
 group_apart {P} {F} law {text} {r} {s} {x} {k} a (v, n, inr b) =
     let inside = law.same (subst (λ (t : List ℕ). IsSum P t b.0 b.1) (mark_same n a.2).1 b.2) a.3 in
     mark_lacks a.4 (subst (Lacks 41) inside.1 b.3.2)
 
-group_same : {P : Part Tree} {F : NoPart} → Lawful (IsSum P) (NoSum P F) → {text r s : List ℕ} {x y : Tree} → IsGroup P text x r → IsGroup P text y s → (x ≡ y) × (r ≡ s)
+group_same : {P : Part Tree} {F : NoPart ExprKind} → Lawful (IsSum P) (NoSum P F) → {text r s : List ℕ} {x y : Tree} → IsGroup P text x r → IsGroup P text y s → (x ≡ y) × (r ≡ s)
 group_same {P} {F} law {text} {r} {s} {x} {y} a b =
     let inside = law.same (subst (λ (t : List ℕ). IsSum P t x a.1) (mark_same a.2 b.2).1 a.3) b.3 in
     (inside.0, (mark_same (subst (λ (t : List ℕ). IsMark 41 t r) inside.1 a.4) b.4).1)
 
-group_law : {P : Part Tree} {F : NoPart} → Lawful P F → Lawful (IsGroup P) (NoGroup P F)
+group_law : {P : Part Tree} {F : NoPart ExprKind} → Lawful P F → Lawful (IsGroup P) (NoGroup P F)
 group_law {P} {F} law = record { same = λ a b. group_same (sum_law law) a b; fault = λ a b. group_fault (sum_law law) a b; apart = λ a b. group_apart (sum_law law) a b }
 
 -- ---- how operands begin
@@ -89,7 +91,7 @@ sign_or_group : (text : List ℕ) → BeginsSign text → BeginsGroup text → �
 sign_or_group text (r, inl a) b = marks_apart 43 40 (λ e. omega arith) a b.1
 sign_or_group text (r, inr a) b = marks_apart 45 40 (λ e. omega arith) a b.1
 
-level_law : {P : Part Tree} {F : NoPart} → Lawful P F → Lawful (λ text x r. IsSigned P text x r ⊎ IsGroup P text x r) (λ text k r. NoSigned F text k r ⊎ NoGroup P F text k r)
+level_law : {P : Part Tree} {F : NoPart ExprKind} → Lawful P F → Lawful (λ text x r. IsSigned P text x r ⊎ IsGroup P text x r) (λ text k r. NoSigned F text k r ⊎ NoGroup P F text k r)
 level_law {P} {F} law = one_or_other BeginsSign BeginsGroup (signed_law law) (group_law law)
     (sign_begins P)
     (λ text r k h. (h.0, h.1))
@@ -152,7 +154,7 @@ levels_begin P text r x (inl (u, inl a)) = mark_level 43 refl a.0
 levels_begin P text r x (inl (u, inr a)) = mark_level 45 refl a.2
 levels_begin P text r x (inr a) = mark_level 40 refl a.2
 
-no_levels_begin : (P : Part Tree) (F : NoPart) (text r : List ℕ) (k : ExprKind) → NoSigned F text k r ⊎ NoGroup P F text k r → BeginsLevel text
+no_levels_begin : (P : Part Tree) (F : NoPart ExprKind) (text r : List ℕ) (k : ExprKind) → NoSigned F text k r ⊎ NoGroup P F text k r → BeginsLevel text
 no_levels_begin P F text r k (inl (u, inl a, b)) = mark_level 43 refl a
 no_levels_begin P F text r k (inl (u, inr a, b)) = mark_level 45 refl a
 no_levels_begin P F text r k (inr a) = mark_level 40 refl a.1

@@ -4,7 +4,6 @@ mod EvalLemmas
 mod RingLemmas
 mod ValueLaws
 mod VarLemmas
-mod Places
 mod AtomLemmas
 mod MarkLemmas
 mod AnswerLemmas

@@ -12,7 +12,7 @@ use Rattle.av_expr.specs.declared.vars.VarSet.{VarSet}
 use Rattle.av_expr.specs.declared.fault.ExprKind.TheVariants.{Syntax}
 use Rattle.av_expr.specs.declared.fraction.Operator.{Operator}
 use Rattle.av_expr.specs.declared.fraction.Operator.TheVariants.{Plus, Minus, Times, Over}
-use Rattle.av_expr.proofs.Places.{byte_at}
+use Rattle.av_text.proofs.Places.{byte_at}
 use Rattle.av_expr.proofs.EvalLemmas.{cons_parts}
 
 -- the byte at a place was read

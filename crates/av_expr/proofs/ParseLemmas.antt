@@ -3,7 +3,7 @@ use Rattle.std.proofs.Common.{◌≡◌, ◌<◌, ◌+◌, ◌++◌, ℕ, List, 
 use Rattle.std.specs.Prelude.{Result, Ok, Err, IfOk}
 use Rattle.std.proofs.lemmas.List.{length-drop}
 use Rattle.av_expr.specs.Trees.{Tree, postfix}
-use Rattle.av_expr.specs.Parts.{Skips}
+use Rattle.av_text.specs.Parts.{Skips}
 use Rattle.av_expr.specs.Grammar.{IsUnary, IsSum}
 use Rattle.av_expr.specs.Exprs.{IsExpr, IsExprFault, IsFaultAt, IfFault, Gives, Refuses}
 use Rattle.av_expr.specs.Reading.{IsRead}

@@ -1,17 +1,13 @@
--- A text begins with one such part at most, or has one fault: of parts in general, and of rows of operands.
-use Rattle.std.proofs.Common.{◌≡◌, ◌==◌, ◌⊎◌, ℕ, false, List, [], ◌∷◌, Option, Some, None, refl, sym, ◌∙◌, ap, subst, inl, inr, eq-eqb}
+-- Rows of operands: a text begins with one at most, or has one fault.
+use Rattle.std.proofs.Common.{◌≡◌, ◌==◌, ℕ, false, List, [], ◌∷◌, Option, Some, None, refl, sym, ◌∙◌, ap, subst, inl, inr, eq-eqb}
 use Rattle.av_expr.specs.Trees.{Tree}
-use Rattle.av_expr.specs.Parts.{IsMark, Lacks, IsOperator, NoOperator, AreLinks, LinksFail, grouped, IsChain, NoChain}
+use Rattle.av_text.specs.Parts.{Lacks}
+use Rattle.av_text.proofs.PartLaws.{Lawful}
+use Rattle.av_expr.specs.Parts.{IsMark, IsOperator, NoOperator, AreLinks, LinksFail, grouped, IsChain, NoChain}
 use Rattle.av_expr.specs.declared.fraction.Operator.{Operator}
 use Rattle.av_expr.specs.declared.fault.ExprKind.{ExprKind}
 use Rattle.av_expr.proofs.EvalLemmas.{cons_parts}
-use Rattle.av_expr.proofs.Places.{skip_same}
-
--- a text begins with one such part at most, or has one fault
-pub record Lawful {X : Type 0} (P : List ℕ → X → List ℕ → Type 0) (F : List ℕ → ExprKind → List ℕ → Type 0) : Type 0 where
-  pub same : {text r s : List ℕ} {x y : X} → P text x r → P text y s → (x ≡ y) × (r ≡ s)
-  pub fault : {text r s : List ℕ} {k l : ExprKind} → F text k r → F text l s → (k ≡ l) × (r ≡ s)
-  pub apart : {text r s : List ℕ} {x : X} {k : ExprKind} → P text x r → F text k s → ⊥
+use Rattle.av_text.proofs.Places.{skip_same}
 
 -- ---- marks
 
@@ -90,36 +86,3 @@ module _ (ops : ℕ → Option Operator) (P : List ℕ → Tree → List ℕ →
 
 pub chain_law : (ops : ℕ → Option Operator) {P : List ℕ → Tree → List ℕ → Type 0} {F : List ℕ → ExprKind → List ℕ → Type 0} → Lawful P F → Lawful (IsChain ops P) (NoChain ops P F)
 chain_law ops {P} {F} law = record { same = λ a b. chain_same ops P F law a b; fault = λ a b. chain_fault ops P F law a b; apart = λ a b. chain_apart ops P F law a b }
-
--- ---- one of two parts that begin in different ways
-
-pub one_or_other : {X : Type 0} {P Q : List ℕ → X → List ℕ → Type 0} {F G : List ℕ → ExprKind → List ℕ → Type 0} (A B : List ℕ → Type 0) → Lawful P F → Lawful Q G
-    → ((text r : List ℕ) (x : X) → P text x r → A text) → ((text r : List ℕ) (k : ExprKind) → F text k r → A text)
-    → ((text r : List ℕ) (x : X) → Q text x r → B text) → ((text r : List ℕ) (k : ExprKind) → G text k r → B text)
-    → ((text : List ℕ) → A text → B text → ⊥) → Lawful (λ text x r. P text x r ⊎ Q text x r) (λ text k r. F text k r ⊎ G text k r)
-one_or_other {X} {P} {Q} {F} {G} A B a b p f q g never = record { same = same; fault = fault; apart = apart } where
-  same : {text r s : List ℕ} {x y : X} → P text x r ⊎ Q text x r → P text y s ⊎ Q text y s → (x ≡ y) × (r ≡ s)
-  same (inl u) (inl v) = a.same u v
-  same {text} {r} {s} {x} {y} (inl u) (inr v) = absurd (never text (p text r x u) (q text s y v))
-  same {text} {r} {s} {x} {y} (inr u) (inl v) = absurd (never text (p text s y v) (q text r x u))
-  same (inr u) (inr v) = b.same u v
-
-  fault : {text r s : List ℕ} {k l : ExprKind} → F text k r ⊎ G text k r → F text l s ⊎ G text l s → (k ≡ l) × (r ≡ s)
-  fault (inl u) (inl v) = a.fault u v
-  fault {text} {r} {s} {k} {l} (inl u) (inr v) = absurd (never text (f text r k u) (g text s l v))
-  fault {text} {r} {s} {k} {l} (inr u) (inl v) = absurd (never text (f text s l v) (g text r k u))
-  fault (inr u) (inr v) = b.fault u v
-
-  apart : {text r s : List ℕ} {x : X} {k : ExprKind} → P text x r ⊎ Q text x r → F text k s ⊎ G text k s → ⊥
-  apart (inl u) (inl v) = a.apart u v
-  apart {text} {r} {s} {x} {k} (inl u) (inr v) = never text (p text r x u) (g text s k v)
-  apart {text} {r} {s} {x} {k} (inr u) (inl v) = never text (f text s k v) (q text r x u)
-  apart (inr u) (inr v) = b.apart u v
-
--- a part under a name of its own
-pub wrapped : {X Y : Type 0} (make : X → Y) {P : List ℕ → X → List ℕ → Type 0} {F : List ℕ → ExprKind → List ℕ → Type 0} → Lawful P F → Lawful (λ text y r. (x : X) × (y ≡ make x) × P text x r) F
-wrapped {X} {Y} make {P} {F} law = record {
-  same = λ a b. let e = law.same a.2 b.2 in (a.1 ∙ ap make e.0 ∙ sym b.1, e.1);
-  fault = law.fault;
-  apart = λ a b. law.apart a.2 b;
-}

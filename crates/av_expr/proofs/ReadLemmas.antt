@@ -2,9 +2,11 @@
 use Rattle.std.proofs.Common.{◌≡◌, ◌≤◌, ◌+◌, ◌++◌, ℕ, zero, suc, true, List, [], ◌∷◌, Option, Some, drop, length, refl, ◌∙◌, ap, arith, inl, inr, append_assoc}
 use Rattle.std.proofs.lemmas.List.{length-drop}
 use Rattle.av_expr.specs.Trees.{Tree, Negation, Binary, postfix}
-use Rattle.av_expr.specs.Parts.{Part, NoPart, Skips, IsMark, IsOperator, NoOperator, AreLinks, NoLinks, grouped, IsChain, NoChain}
+use Rattle.av_text.specs.Parts.{Part, NoPart, Skips}
+use Rattle.av_expr.specs.Parts.{IsMark, IsOperator, NoOperator, AreLinks, NoLinks, grouped, IsChain, NoChain}
 use Rattle.av_expr.specs.Grammar.{IsAtom, NoAtom, opens, IsSum, NoSum, IsOpen, IsUnary, NoUnary}
-use Rattle.av_expr.specs.Reading.{IsPlace, FailsAt, IsRead, StandsAt, mark_of}
+use Rattle.av_text.specs.Parts.{IsPlace}
+use Rattle.av_expr.specs.Reading.{FailsAt, IsRead, StandsAt, mark_of}
 use Rattle.av_expr.specs.declared.vars.VarSet.{VarSet}
 use Rattle.av_expr.specs.declared.expr.Node.{Node}
 use Rattle.av_expr.specs.declared.expr.Node.TheVariants as node
@@ -22,7 +24,7 @@ mark_there mark text place next at skips = (drop (place + 1) text, at.0, skips)
 -- ---- rows of operands
 
 -- operands were read up to a place: whatever stands behind it completes them
-pub record Chained (ops : ℕ → Option Operator) (P : Part Tree) (F : NoPart) (text : List ℕ) (start : ℕ) (before after : List Node) (place : ℕ) : Type 0 where
+pub record Chained (ops : ℕ → Option Operator) (P : Part Tree) (F : NoPart ExprKind) (text : List ℕ) (start : ℕ) (before after : List Node) (place : ℕ) : Type 0 where
   pub tree : Tree
   pub added : after ≡ before ++ postfix tree
   pub later : IsPlace text start place
@@ -42,7 +44,7 @@ nodes_added before s t op first second third e f g =
     ∙ append_assoc (before ++ postfix s) (postfix t) (node.Binary op ∷ [])
     ∙ append_assoc before (postfix s) (postfix t ++ node.Binary op ∷ [])
 
-pub chained_more : {ops : ℕ → Option Operator} {P : Part Tree} {F : NoPart} {text : List ℕ} {start place operand next : ℕ} {before first second third : List Node} (op : Operator)
+pub chained_more : {ops : ℕ → Option Operator} {P : Part Tree} {F : NoPart ExprKind} {text : List ℕ} {start place operand next : ℕ} {before first second third : List Node} (op : Operator)
     → Chained ops P F text start before first place → (mark : ℕ) × (ops mark ≡ Some op) × StandsAt mark text place → Skips (drop (place + 1) text) (drop operand text) → IsPlace text (place + 1) operand
     → IsRead P text operand first second next → third ≡ second ++ node.Binary op ∷ [] → Chained ops P F text start before third next
 chained_more {ops} {P} {F} {text} {start} {place} {operand} {next} {before} {first} {second} {third} op ch at skips after h pushed = record {
@@ -53,7 +55,7 @@ chained_more {ops} {P} {F} {text} {start} {place} {operand} {next} {before} {fir
   fails = λ kind bad l. ch.fails kind bad ((op, h.tree) ∷ l.0, (drop operand text, drop next text, operator_there ops text place operand op at skips, h.is_part, l.1));
 }
 
-pub chained_all : {ops : ℕ → Option Operator} {P : Part Tree} {F : NoPart} {text : List ℕ} {start place : ℕ} {before after : List Node}
+pub chained_all : {ops : ℕ → Option Operator} {P : Part Tree} {F : NoPart ExprKind} {text : List ℕ} {start place : ℕ} {before after : List Node}
     → Chained ops P F text start before after place → NoOperator ops (drop place text) → IsRead (IsChain ops P) text start before after place
 chained_all {ops} {P} {F} {text} {start} {place} {before} {after} ch none = record {
   tree = ch.tree;
@@ -62,7 +64,7 @@ chained_all {ops} {P} {F} {text} {start} {place} {before} {after} ch none = reco
   later = ch.later;
 }
 
-pub chained_fault : {ops : ℕ → Option Operator} {P : Part Tree} {F : NoPart} {text : List ℕ} {start place : ℕ} {before after : List Node} (operand : ℕ) (op : Operator)
+pub chained_fault : {ops : ℕ → Option Operator} {P : Part Tree} {F : NoPart ExprKind} {text : List ℕ} {start place : ℕ} {before after : List Node} (operand : ℕ) (op : Operator)
     → Chained ops P F text start before after place → (mark : ℕ) × (ops mark ≡ Some op) × StandsAt mark text place → Skips (drop (place + 1) text) (drop operand text)
     → (f : ExprFault) → FailsAt F text operand f → FailsAt (NoChain ops P F) text start f
 chained_fault {ops} {P} {F} {text} {start} {place} {before} {after} operand op ch at skips f h =

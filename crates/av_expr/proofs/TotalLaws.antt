@@ -10,7 +10,8 @@ use Rattle.av_text.specs.Classes.{is_digit, is_name, is_white, Stops, IsRun}
 use Rattle.av_text.proofs.TotalLemmas.{span}
 use Rattle.av_expr.specs.Vars.{order, variable_named}
 use Rattle.av_expr.specs.Trees.{Tree, Number, Variable, Negation}
-use Rattle.av_expr.specs.Parts.{Skips, IsMark, Lacks, IsOperator, NoOperator, AreLinks, NoLinks, grouped, IsChain, NoChain}
+use Rattle.av_text.specs.Parts.{Skips, Lacks}
+use Rattle.av_expr.specs.Parts.{IsMark, IsOperator, NoOperator, AreLinks, NoLinks, grouped, IsChain, NoChain}
 use Rattle.av_expr.specs.Grammar.{IsNumber, NoNumber, IsAllowed, IsVariable, NoVariable, IsAtom, NoAtom, opens, additive, multiplicative, IsSum, NoSum, IsProduct, NoProduct, IsUnary, NoUnary}
 use Rattle.av_expr.specs.Exprs.{IsExpr, IsExprFault}
 use Rattle.av_expr.specs.Reading.{BeginsNumber, BeginsName}

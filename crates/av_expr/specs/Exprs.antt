@@ -1,7 +1,7 @@
 -- Whole texts: one sum, with at most 64 levels of signs and parentheses open at a place.
 use Rattle.std.specs.Prelude.{◌≡◌, ◌<◌, ◌+◌, ℕ, List, [], length, Result, Ok, Err}
 use Rattle.av_expr.specs.Trees.{Tree}
-use Rattle.av_expr.specs.Parts.{NoPart, Skips, Either}
+use Rattle.av_text.specs.Parts.{NoPart, Skips, Either}
 use Rattle.av_expr.specs.Grammar.{IsUnary, NoUnary, IsSum, NoSum}
 use Rattle.av_expr.specs.declared.vars.VarSet.{VarSet}
 use Rattle.av_expr.specs.declared.fault.ExprKind.{ExprKind}
@@ -17,7 +17,7 @@ pub record IsExpr (allowed : VarSet) (text : List ℕ) (tree : Tree) : Type 0 wh
   pub is_sum : IsSum (IsUnary allowed 64) start tree []
 
 -- something stands where the text should end
-abbrev pub IsBehind : NoPart
+abbrev pub IsBehind : NoPart ExprKind
 IsBehind text kind bad = (kind ≡ Syntax) × (bad ≡ text) × (0 < length text)
 
 -- the text says no tree: the kind of its fault, and the text from its byte on

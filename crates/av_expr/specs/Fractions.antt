@@ -1,5 +1,5 @@
 -- Exact fractions, and what operators make of them.
-use Rattle.std.specs.Prelude.{◌≡◌, ◌≢◌, ◌<◌, ◌≤◌, ◌+◌, ◌*◌, ◌⊎◌, ℕ, ℤ, pos, neg_ℤ, ◌+ℤ◌, ◌-ℤ◌, ◌*ℤ◌, ◌≤ℤ◌, ◌<ℤ◌, unsigned_abs, FitsSigned, Bool, true, false, List, [], ◌∷◌}
+use Rattle.std.specs.Prelude.{◌≡◌, ◌≢◌, ◌<◌, ◌≤◌, ◌+◌, ◌*◌, ◌%◌, ◌⊎◌, ℕ, ℤ, pos, neg_ℤ, ◌+ℤ◌, ◌-ℤ◌, ◌*ℤ◌, ◌≤ℤ◌, ◌<ℤ◌, unsigned_abs, FitsSigned, List, [], ◌∷◌}
 use Rattle.std.specs.List.{AllByRecursion}
 use Rattle.std.specs.Int.{IsGcd, w128}
 use Rattle.av_expr.specs.declared.fraction.Fraction.{Fraction}
@@ -40,10 +40,17 @@ pub record IsCut (f : Fraction) (z : ℤ) : Type 0 where
   pub up : pos 0 ≤ℤ f.num → pos 0 ≤ℤ z
   pub down : f.num ≤ℤ pos 0 → z ≤ℤ pos 0
 
--- a number of this sign and size
-abbrev pub signed_of : Bool → ℕ → ℤ
-signed_of true size = neg_ℤ (pos size)
-signed_of false size = pos size
+-- the whole number that is nearest to a fraction; of two that are as near, the even one
+pub record IsNearest (f : Fraction) (z : ℤ) : Type 0 where
+  pub near : 2 * unsigned_abs (f.num -ℤ z *ℤ f.den) ≤ unsigned_abs f.den
+  pub even : 2 * unsigned_abs (f.num -ℤ z *ℤ f.den) ≡ unsigned_abs f.den → unsigned_abs z % 2 ≡ 0
+
+-- n is the nearest to a / b; of two that are as near, the even one
+pub record IsNearestQuotient (a b n : ℕ) : Type 0 where
+  pub below : 2 * a ≤ 2 * (n * b) + b
+  pub above : 2 * (n * b) ≤ 2 * a + b
+  pub even_below : 2 * a ≡ 2 * (n * b) + b → n % 2 ≡ 0
+  pub even_above : 2 * (n * b) ≡ 2 * a + b → n % 2 ≡ 0
 
 -- ---- operators
 

@@ -6,13 +6,15 @@ use Rattle.av_text.specs.Classes.{is_digit, is_name, Stops, IsRun}
 use Rattle.av_expr.specs.Vars.{order, variable_named}
 use Rattle.av_expr.specs.Fractions.{IsReduced}
 use Rattle.av_expr.specs.Trees.{Tree, Number, Variable, Negation}
-use Rattle.av_expr.specs.Parts.{Part, NoPart, Either, Skips, IsMark, Lacks, IsChain, NoChain}
+use Rattle.av_text.specs.Parts.{Part, NoPart, Either, Skips, Lacks}
+use Rattle.av_expr.specs.Parts.{IsMark, IsChain, NoChain}
 use Rattle.av_expr.specs.declared.vars.Var.{Var}
 use Rattle.av_expr.specs.declared.vars.VarSet.{VarSet}
 use Rattle.av_expr.specs.declared.fraction.Fraction.{Fraction}
 use Rattle.av_expr.specs.declared.fraction.Operator.{Operator}
 use Rattle.av_expr.specs.declared.fraction.Operator.TheVariants.{Plus, Minus, Times, Over}
 use Rattle.av_expr.specs.declared.fault.ExprKind.TheVariants.{Syntax, UnknownName, TooDeep}
+use Rattle.av_expr.specs.declared.fault.ExprKind.{ExprKind}
 
 -- ---- numbers
 
@@ -31,15 +33,15 @@ abbrev pub IsNumber : Part Fraction
 IsNumber text f rest = IsWhole text f rest ⊎ IsDecimal text f rest
 
 -- the text begins with more than 18 digits, and the 19th is one too many
-abbrev pub IsNineteenth : NoPart
+abbrev pub IsNineteenth : NoPart ExprKind
 IsNineteenth text kind bad = (digits behind : List ℕ) × IsRun is_digit text digits behind × (18 < length digits) × (kind ≡ Syntax) × (bad ≡ drop 18 text)
 
 -- no digit stands here, or too many do
-abbrev pub NoDigits : NoPart
+abbrev pub NoDigits : NoPart ExprKind
 NoDigits text kind bad = (Stops is_digit text × (kind ≡ Syntax) × (bad ≡ text)) ⊎ IsNineteenth text kind bad
 
 -- there are too many digits before the point, or too many or none behind it
-abbrev pub NoNumber : NoPart
+abbrev pub NoNumber : NoPart ExprKind
 NoNumber text kind bad = IsNineteenth text kind bad
     ⊎ ((digits after : List ℕ) × IsRun is_digit text digits (46 ∷ after) × (length digits ≤ 18) × NoDigits after kind bad)
 
@@ -56,7 +58,7 @@ IsAllowed allowed name x = (variable_named name ≡ Some x) × IsBitSet allowed.
 abbrev pub IsVariable : VarSet → Part Var
 IsVariable allowed text x rest = (name behind : List ℕ) × IsName text name behind × IsAllowed allowed name x × Skips behind rest
 
-abbrev pub NoVariable : VarSet → NoPart
+abbrev pub NoVariable : VarSet → NoPart ExprKind
 NoVariable allowed text kind bad = (kind ≡ UnknownName) × (bad ≡ text) × (name behind : List ℕ) × IsName text name behind × ((x : Var) → ¬ IsAllowed allowed name x)
 
 -- ---- numbers and names
@@ -73,7 +75,7 @@ abbrev pub begins : ℕ → Bool
 begins c = is_name c || (c == 46 || opens c)
 
 -- a number or a name that is wrong, or nothing that begins an operand
-abbrev pub NoAtom : VarSet → NoPart
+abbrev pub NoAtom : VarSet → NoPart ExprKind
 NoAtom allowed text kind bad = NoNumber text kind bad ⊎ (NoVariable allowed text kind bad ⊎ ((kind ≡ Syntax) × (bad ≡ text) × Stops begins text))
 
 -- ---- sums and products
@@ -88,13 +90,13 @@ multiplicative c = if c == 42 then Some Times else (if c == 47 then Some Over el
 abbrev pub IsProduct : Part Tree → Part Tree
 IsProduct P = IsChain multiplicative P
 
-abbrev pub NoProduct : Part Tree → NoPart → NoPart
+abbrev pub NoProduct : Part Tree → NoPart ExprKind → NoPart ExprKind
 NoProduct P F = NoChain multiplicative P F
 
 abbrev pub IsSum : Part Tree → Part Tree
 IsSum P = IsChain additive (IsProduct P)
 
-abbrev pub NoSum : Part Tree → NoPart → NoPart
+abbrev pub NoSum : Part Tree → NoPart ExprKind → NoPart ExprKind
 NoSum P F = NoChain additive (IsProduct P) (NoProduct P F)
 
 -- ---- signs and parentheses
@@ -103,17 +105,17 @@ NoSum P F = NoChain additive (IsProduct P) (NoProduct P F)
 abbrev pub IsSigned : Part Tree → Part Tree
 IsSigned P text tree rest = (operand : List ℕ) × ((IsMark 43 text operand × P operand tree rest) ⊎ ((t : Tree) × (tree ≡ Negation t) × IsMark 45 text operand × P operand t rest))
 
-abbrev pub NoSigned : NoPart → NoPart
+abbrev pub NoSigned : NoPart ExprKind → NoPart ExprKind
 NoSigned F text kind bad = (operand : List ℕ) × (IsMark 43 text operand ⊎ IsMark 45 text operand) × F operand kind bad
 
 -- a sum between `(` and `)`
 abbrev pub IsGroup : Part Tree → Part Tree
 IsGroup P text tree rest = (inside behind : List ℕ) × IsMark 40 text inside × IsSum P inside tree behind × IsMark 41 behind rest
 
-abbrev pub IsOpen : NoPart
+abbrev pub IsOpen : NoPart ExprKind
 IsOpen text kind bad = (kind ≡ Syntax) × (bad ≡ text) × Lacks 41 text
 
-abbrev pub NoGroup : Part Tree → NoPart → NoPart
+abbrev pub NoGroup : Part Tree → NoPart ExprKind → NoPart ExprKind
 NoGroup P F text kind bad = (inside : List ℕ) × IsMark 40 text inside × Either (IsSum P) (NoSum P F) IsOpen inside kind bad
 
 -- an operand, in which so many levels of signs and parentheses may stand
@@ -122,10 +124,10 @@ IsUnary allowed zero text tree rest = IsAtom allowed text tree rest
 IsUnary allowed (suc levels) text tree rest = IsAtom allowed text tree rest ⊎ (IsSigned (IsUnary allowed levels) text tree rest ⊎ IsGroup (IsUnary allowed levels) text tree rest)
 
 -- a level stands here that is one too many
-abbrev pub IsTooDeep : NoPart
+abbrev pub IsTooDeep : NoPart ExprKind
 IsTooDeep text kind bad = (kind ≡ TooDeep) × (bad ≡ text) × (c : ℕ) × (behind : List ℕ) × (text ≡ c ∷ behind) × (opens c ≡ true)
 
-unfoldable pub NoUnary : VarSet → ℕ → NoPart
+unfoldable pub NoUnary : VarSet → ℕ → NoPart ExprKind
 NoUnary allowed zero text kind bad = NoAtom allowed text kind bad ⊎ IsTooDeep text kind bad
 NoUnary allowed (suc levels) text kind bad = NoAtom allowed text kind bad
     ⊎ (NoSigned (NoUnary allowed levels) text kind bad ⊎ NoGroup (IsUnary allowed levels) (NoUnary allowed levels) text kind bad)

@@ -1,33 +1,13 @@
 -- Parts of a text, one behind another. White space stands behind a part and belongs to it.
-use Rattle.std.specs.Prelude.{◌≡◌, ◌==◌, ◌⊎◌, ℕ, List, [], ◌∷◌, Option, Some, None}
-use Rattle.av_text.specs.Classes.{is_white, Stops, IsRun}
+use Rattle.std.specs.Prelude.{◌≡◌, ℕ, List, [], ◌∷◌, Option, Some, None}
 use Rattle.av_expr.specs.Trees.{Tree, Binary}
 use Rattle.av_expr.specs.declared.fraction.Operator.{Operator}
 use Rattle.av_expr.specs.declared.fault.ExprKind.{ExprKind}
-
--- the text begins with white space, or with none, and the rest with none
-abbrev pub Skips : List ℕ → List ℕ → Type 0
-Skips text rest = (lead : List ℕ) × IsRun is_white text lead rest
-
--- how a text begins with a part of a value, and which rest follows it
-abbrev pub Part : Type 0 → Type 1
-Part X = List ℕ → X → List ℕ → Type 0
-
--- how a text begins with no such part: the kind of the fault, and the text from its byte on
-abbrev pub NoPart : Type 1
-NoPart = List ℕ → ExprKind → List ℕ → Type 0
-
--- the first is missing, or it is there and the second is missing
-abbrev pub Either : {X : Type 0} → Part X → NoPart → NoPart → NoPart
-Either {X} P F G text kind bad = F text kind bad ⊎ ((x : X) × (middle : List ℕ) × P text x middle × G middle kind bad)
+use Rattle.av_text.specs.Parts.{Either, NoPart, Part, Skips}
 
 -- the text begins with this mark
 abbrev pub IsMark : ℕ → List ℕ → List ℕ → Type 0
 IsMark mark text rest = (behind : List ℕ) × (text ≡ mark ∷ behind) × Skips behind rest
-
--- the text doesn't begin with this mark
-abbrev pub Lacks : ℕ → List ℕ → Type 0
-Lacks mark text = Stops (λ c. c == mark) text
 
 -- ---- operators and operands in a row
 
@@ -46,11 +26,11 @@ AreLinks ops P text [] rest = (rest ≡ text) × NoOperator ops text
 AreLinks ops P text (link ∷ links) rest = (operand behind : List ℕ) × IsOperator ops text link.0 operand × P operand link.1 behind × AreLinks ops P behind links rest
 
 -- behind these an operator stands, and its right operand is missing
-abbrev pub LinksFail : (ℕ → Option Operator) → Part Tree → NoPart → List ℕ → List (Operator × Tree) → ExprKind → List ℕ → Type 0
+abbrev pub LinksFail : (ℕ → Option Operator) → Part Tree → NoPart ExprKind → List ℕ → List (Operator × Tree) → ExprKind → List ℕ → Type 0
 LinksFail ops P F text [] kind bad = (op : Operator) × (operand : List ℕ) × IsOperator ops text op operand × F operand kind bad
 LinksFail ops P F text (link ∷ links) kind bad = (operand behind : List ℕ) × IsOperator ops text link.0 operand × P operand link.1 behind × LinksFail ops P F behind links kind bad
 
-abbrev pub NoLinks : (ℕ → Option Operator) → Part Tree → NoPart → NoPart
+abbrev pub NoLinks : (ℕ → Option Operator) → Part Tree → NoPart ExprKind → NoPart ExprKind
 NoLinks ops P F text kind bad = (links : List (Operator × Tree)) × LinksFail ops P F text links kind bad
 
 -- operators of one level group from the left
@@ -62,5 +42,5 @@ grouped tree (link ∷ links) = grouped (Binary link.0 tree link.1) links
 abbrev pub IsChain : (ℕ → Option Operator) → Part Tree → Part Tree
 IsChain ops P text tree rest = (first : Tree) × (links : List (Operator × Tree)) × (behind : List ℕ) × P text first behind × AreLinks ops P behind links rest × (tree ≡ grouped first links)
 
-abbrev pub NoChain : (ℕ → Option Operator) → Part Tree → NoPart → NoPart
+abbrev pub NoChain : (ℕ → Option Operator) → Part Tree → NoPart ExprKind → NoPart ExprKind
 NoChain ops P F = Either P F (NoLinks ops P F)

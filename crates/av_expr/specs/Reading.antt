@@ -1,9 +1,10 @@
 -- Places in a text, and what stands at one.
-use Rattle.std.specs.Prelude.{◌≡◌, ◌≤◌, ◌+◌, ◌++◌, ◌⊎◌, ◌==◌, ◌||◌, ℕ, true, false, List, ◌∷◌, Option, Some, None, length, drop}
+use Rattle.std.specs.Prelude.{◌≡◌, ◌+◌, ◌++◌, ◌⊎◌, ◌==◌, ◌||◌, ℕ, true, false, List, ◌∷◌, Option, Some, None, length, drop}
 use Rattle.std.specs.Str.{IsCharBoundary}
 use Rattle.av_text.specs.Classes.{is_digit, is_name, Stops}
 use Rattle.av_expr.specs.Trees.{Tree, postfix}
-use Rattle.av_expr.specs.Parts.{Part, NoPart, NoOperator}
+use Rattle.av_text.specs.Parts.{Part, NoPart, IsPlace}
+use Rattle.av_expr.specs.Parts.{NoOperator}
 use Rattle.av_expr.specs.Grammar.{opens}
 use Rattle.av_expr.specs.declared.expr.Node.{Node}
 use Rattle.av_expr.specs.declared.fraction.Operator.{Operator}
@@ -12,13 +13,10 @@ use Rattle.av_expr.specs.declared.reader.Opening.TheVariants.{Plus, Minus, Group
 use Rattle.av_expr.specs.declared.reader.Atom.{Atom}
 use Rattle.av_expr.specs.declared.reader.Atom.TheVariants.{Number, Name}
 use Rattle.av_expr.specs.declared.fault.ExprFault.{ExprFault}
-
--- a place at or behind another, between two characters
-abbrev pub IsPlace : List ℕ → ℕ → ℕ → Type 0
-IsPlace text from place = (from ≤ place) × IsCharBoundary text place
+use Rattle.av_expr.specs.declared.fault.ExprKind.{ExprKind}
 
 -- no such part stands at a place of the text, and this is the fault
-abbrev pub FailsAt : NoPart → List ℕ → ℕ → ExprFault → Type 0
+abbrev pub FailsAt : NoPart ExprKind → List ℕ → ℕ → ExprFault → Type 0
 FailsAt F text place f = (bad : List ℕ) × F (drop place text) f.kind bad × (f.at + length bad ≡ length text)
 
 -- such a part stands at a place and ends at another, and the nodes of its tree were added

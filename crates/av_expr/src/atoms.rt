@@ -4,29 +4,21 @@ ghost use Rattle.std.specs.Str.{IsCharBoundary};
 ghost use Rattle.std.specs.Str.Parse.{AllDigits, digits_value};
 ghost use Rattle.av_text.specs.Classes.{is_digit, is_name, Stops, IsRun};
 ghost use Rattle.av_expr.specs.Fractions.{IsReduced};
-ghost use Rattle.av_expr.specs.Parts.{Skips, IsMark, Lacks};
+ghost use Rattle.av_text.specs.Parts.{Skips, Lacks};
+ghost use Rattle.av_expr.specs.Parts.{IsMark};
 ghost use Rattle.av_expr.specs.Grammar.{IsNineteenth, NoDigits, IsNumber, NoNumber, IsAllowed, IsVariable, NoVariable};
 ghost use Rattle.av_expr.specs.Exprs.{IfFault};
-ghost use Rattle.av_expr.specs.Reading.{IsPlace, FailsAt, BeginsNumber, BeginsName};
+ghost use Rattle.av_text.specs.Parts.{IsPlace};
+ghost use Rattle.av_expr.specs.Reading.{FailsAt, BeginsNumber, BeginsName};
 ghost use Rattle.av_expr.specs.declared.vars.Var.{Var};
 
 use crate::fault::{ExprError, ExprFault, ExprKind};
 use crate::fraction::{Fraction, reduce_small};
 use crate::vars::{Var, VarSet};
-use av_text::{Class, split_run};
+use av_text::{Class, skip_white, split_run};
 
 /// The greatest number of digits on each side of a point.
 const MOST: usize = 18;
-
-/// The place behind the white space that stands at a place.
-pub(crate) fn skip(text: &str, place: usize) -> usize
-    requires { IsCharBoundary text.now place }
-    ensures skips { Skips (drop place text.now) (drop result text.now) }
-    ensures later { IsPlace text.now place result }
-{
-    let (_, rest) = split_run(&text[place..], Class::White);
-    text.len() - rest.len()
-}
 
 /// The fault of a kind at a place.
 pub(crate) fn fault(place: usize, kind: ExprKind) -> ExprError
@@ -111,12 +103,12 @@ pub(crate) fn read_number(text: &str, place: usize) -> Result<(Fraction, usize),
     let digits = text[place..end].as_bytes();
     if !text[end..].starts_with('.') {
         let num = i128::from(digits_number(digits));
-        return Ok((Fraction { num, den: 1 }, skip(text, end)));
+        return Ok((Fraction { num, den: 1 }, skip_white(text, end)));
     }
     let start = end + 1;
     let end = read_part(text, start)?;
     let part = text[start..end].as_bytes();
-    Ok((decimal(digits, part), skip(text, end)))
+    Ok((decimal(digits, part), skip_white(text, end)))
 }
 
 /// The variable that a name spells, where it is allowed.
@@ -143,7 +135,7 @@ pub(crate) fn read_variable(
 {
     let (name, rest) = split_run(&text[place..], Class::Name);
     match allowed_variable(name, allowed) {
-        Some(var) => Ok((var, skip(text, text.len() - rest.len()))),
+        Some(var) => Ok((var, skip_white(text, text.len() - rest.len()))),
         None => Err(fault(place, ExprKind::UnknownName)),
     }
 }

@@ -1,11 +1,13 @@
 //! Exact fractions, and what operators make of them.
-ghost use Rattle.std.specs.Prelude.{◌≡◌, ◌≢◌, ◌<◌, ◌^◌, ℤ, pos, neg_ℤ, ◌*ℤ◌, ◌↔◌, IsTrue, IfOk, IfErr, IfSome, IsNone};
+ghost use Rattle.std.specs.Prelude.{◌≡◌, ◌≢◌, ◌<◌, ◌≤◌, ◌^◌, ℤ, pos, neg_ℤ, ◌*ℤ◌, ◌↔◌, IsTrue, IfOk, IfErr, IfSome, IsNone};
 ghost use Rattle.std.specs.List.{AllByRecursion};
 ghost use Rattle.std.specs.Int.{IsGcd};
-ghost use Rattle.av_expr.specs.Fractions.{Fits, AreFitting, IsLowest, IsReduced, IsCut, signed_of, above, below, made, DividesByZero, IsStep, NoStep, IsNegated, NoNegation};
+ghost use Rattle.av_base.specs.Numbers.{signed_of};
+ghost use Rattle.av_expr.specs.Fractions.{Fits, AreFitting, IsLowest, IsReduced, IsCut, IsNearest, IsNearestQuotient, above, below, made, DividesByZero, IsStep, NoStep, IsNegated, NoNegation};
 ghost use Rattle.av_expr.specs.declared.fraction.Fraction.{Fraction};
 
 use crate::fault::NoValue;
+use av_base::greatest_divisor;
 
 /// A fraction. It is in lowest terms where its parts have no common divisor, and then its denominator is positive.
 #[derive(Clone, Copy, Debug, PartialEq, Eq)]
@@ -27,22 +29,6 @@ pub enum Operator {
     Times,
     /// `/`
     Over,
-}
-
-/// The greatest common divisor, by Euclid's steps.
-fn greatest_divisor(a: u128, b: u128) -> u128
-    requires { 0 < b }
-    ensures greatest { IsGcd a b result }
-    ensures some { 0 < result }
-{
-    let mut x = a;
-    let mut y = b;
-    'steps: while y != 0 {
-        let rest = x % y;
-        x = y;
-        y = rest;
-    }
-    x
 }
 
 /// The number of this sign and size; none where it leaves the 128 bits.
@@ -94,6 +80,23 @@ fn common_parts(a: Fraction, b: Fraction) -> Option<(i128, i128, i128)>
         b.num.checked_mul(a.den)?,
         a.den.checked_mul(b.den)?,
     ))
+}
+
+/// The quotient, rounded to the nearest whole number; of two that are as near, to the even one.
+fn nearest_quotient(a: u128, b: u128) -> u128
+    requires a { a ≤ 2 ^ 127 }
+    requires b { b < 2 ^ 127 }
+    requires some { 0 < b }
+    ensures nearest { IsNearestQuotient a b result }
+    ensures small { result ≤ a }
+{
+    let low = a / b;
+    let rest = a % b;
+    if rest > b - rest || (rest == b - rest && low % 2 == 1) {
+        low + 1
+    } else {
+        low
+    }
 }
 
 impl Operator {
@@ -163,6 +166,20 @@ impl Fraction {
         ensures { IsCut self result }
     {
         self.num / self.den
+    }
+
+    /// The nearest whole number; of two that are as near, the even one.
+    ///
+    /// The fraction is in lowest terms, with a positive denominator.
+    pub fn nearest(self) -> i128
+        requires { IsLowest self }
+        ensures { IsNearest self result }
+    {
+        let size = nearest_quotient(self.num.unsigned_abs(), self.den.unsigned_abs());
+        match signed(self.num < 0, size) {
+            Some(z) => z,
+            None => unreachable!(),
+        }
     }
 }
 

@@ -6,15 +6,16 @@ ghost use Rattle.av_expr.specs.Trees.{Tree, postfix};
 ghost use Rattle.av_expr.specs.Parts.{IsMark};
 ghost use Rattle.av_expr.specs.Grammar.{IsAtom, NoAtom, IsUnary, NoUnary, IsProduct, NoProduct, IsSum, NoSum, IsOpen, additive, multiplicative, opens};
 ghost use Rattle.av_expr.specs.Exprs.{IsExpr, IsExprFault, IsFaultAt, IfFault, Gives, Refuses};
-ghost use Rattle.av_expr.specs.Reading.{IsPlace, FailsAt, IsRead, IsOperatorAt, IsOpeningAt, IsAtomAt};
+ghost use Rattle.av_text.specs.Parts.{IsPlace};
+ghost use Rattle.av_expr.specs.Reading.{FailsAt, IsRead, IsOperatorAt, IsOpeningAt, IsAtomAt};
 ghost use Rattle.av_expr.specs.declared.fault.ExprKind.{ExprKind};
 
-use crate::atoms::{fault, read_number, read_variable, skip};
+use crate::atoms::{fault, read_number, read_variable};
 use crate::expr::{Expr, Node};
 use crate::fault::{ExprError, ExprKind};
 use crate::fraction::Operator;
 use crate::vars::VarSet;
-use av_text::Class;
+use av_text::{Class, skip_white};
 use std::alloc::Global;
 
 /// How many signs and parentheses may be open at a place.
@@ -151,7 +152,7 @@ fn close(text: &str, place: usize) -> Result<usize, ExprError>
     if !text[place..].starts_with(')') {
         return Err(fault(place, ExprKind::Syntax));
     }
-    Ok(skip(text, place + 1))
+    Ok(skip_white(text, place + 1))
 }
 
 /// The operand that stands at a place is added; the place behind it is answered. So many levels may stand in it.
@@ -174,7 +175,7 @@ fn read_unary(
     if levels == 0 {
         return Err(fault(place, ExprKind::TooDeep));
     }
-    let inside = skip(text, place + 1);
+    let inside = skip_white(text, place + 1);
     match opening {
         Opening::Plus => read_unary(out, text, inside, allowed, levels - 1),
         Opening::Minus => {
@@ -205,7 +206,7 @@ fn read_product(
 {
     let mut end = read_unary(out, text, place, allowed, levels)?;
     'operands: while let Some(operator) = product_operator(text, end) {
-        let operand = skip(text, end + 1);
+        let operand = skip_white(text, end + 1);
         end = read_unary(out, text, operand, allowed, levels)?;
         out.push(Node::Binary(operator))?;
     }
@@ -228,7 +229,7 @@ fn read_sum(
 {
     let mut end = read_product(out, text, place, allowed, levels)?;
     'operands: while let Some(operator) = sum_operator(text, end) {
-        let operand = skip(text, end + 1);
+        let operand = skip_white(text, end + 1);
         end = read_product(out, text, operand, allowed, levels)?;
         out.push(Node::Binary(operator))?;
     }
@@ -241,7 +242,7 @@ fn read_text(out: &mut Vec<Node>, text: &str, allowed: VarSet) -> Result<(), Exp
     ensures tree { OnOk result ((tree : Tree) × IsExpr allowed text.now tree × (out.new.items ≡ out.old.items ++ postfix tree)) }
     ensures fault { IfFault result (λ f. (bad : List ℕ) × IsExprFault allowed text.now f.kind bad × (f.at + length bad ≡ length text.now)) }
 {
-    let start = skip(text, 0);
+    let start = skip_white(text, 0);
     let end = read_sum(out, text, start, allowed, LEVELS)?;
     if end < text.len() {
         return Err(fault(end, ExprKind::Syntax));

@@ -1,4 +1,6 @@
 pub mod Runs
+pub mod Places
+pub mod PartLaws
 pub mod PieceLemmas
 pub mod TokenLemmas
 pub mod ReadingLemmas

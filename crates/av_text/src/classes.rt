@@ -1,7 +1,8 @@
 //! Classes of ASCII characters, and the runs of them that texts begin with.
 ghost use Rattle.std.specs.Prelude.{◌≡◌, ◌≤◌, length, take, drop};
-ghost use Rattle.std.specs.Str.{IsUtf8};
+ghost use Rattle.std.specs.Str.{IsUtf8, IsCharBoundary};
 ghost use Rattle.av_text.specs.Classes.{has, IsRun};
+ghost use Rattle.av_text.specs.Parts.{Skips, IsPlace};
 
 /// A class of ASCII characters.
 #[derive(Clone, Copy, Debug, PartialEq, Eq)]
@@ -56,4 +57,14 @@ pub(crate) fn split_bytes(text: &[u8], class: Class) -> (&[u8], &[u8])
     ensures { IsRun (has class) text.now result.0.now result.1.now }
 {
     text.split_at(run_len(text, class))
+}
+
+/// The place behind the white space that stands at a place.
+pub fn skip_white(text: &str, place: usize) -> usize
+    requires { IsCharBoundary text.now place }
+    ensures skips { Skips (drop place text.now) (drop result text.now) }
+    ensures later { IsPlace text.now place result }
+{
+    let (_, rest) = split_run(&text[place..], Class::White);
+    text.len() - rest.len()
 }

@@ -10,7 +10,7 @@ mod times;
 mod token;
 
 pub use arguments::{Arg, split_args};
-pub use classes::{Class, split_run};
+pub use classes::{Class, skip_white, split_run};
 pub use fault::{TextError, TextFault, TextKind};
 pub use law::texts_have_one_reading;
 pub use numbers::{read_digits, read_ratio, read_whole};

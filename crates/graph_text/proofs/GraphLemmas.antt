@@ -14,9 +14,9 @@ use Rattle.av_text.proofs.ReadingLemmas.{cons_parts, mark_unique}
 use Rattle.av_text.specs.declared.fault.TextKind.{TextKind}
 use Rattle.av_text.specs.declared.fault.TextKind.TheVariants.{Stray}
 use Rattle.graph_text.specs.Grammar.{IsFilter, NoFilter}
-use Rattle.graph_text.specs.Parts.{Skips}
+use Rattle.av_text.specs.Parts.{Skips}
 use Rattle.graph_text.specs.Graphs.{AreCalls, IsStray, CallsFail, flags_mark, IsBody, NoBody, IsGraph, IsGraphFault}
-use Rattle.graph_text.proofs.Places.{skip_same}
+use Rattle.av_text.proofs.Places.{skip_same}
 use Rattle.graph_text.proofs.PartLemmas.{filter_same, filter_fault, filter_apart}
 use Rattle.graph_text.specs.Reading.{IsNext}
 use Rattle.graph_text.specs.declared.graph.FilterCall.{FilterCall}

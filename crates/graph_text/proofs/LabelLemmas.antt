@@ -9,10 +9,11 @@ use Rattle.av_text.specs.declared.fault.TextKind.{TextKind}
 use Rattle.av_text.specs.declared.fault.TextKind.TheVariants.{BadLabel}
 use Rattle.av_text.proofs.Runs.{same_run}
 use Rattle.av_text.proofs.ReadingLemmas.{cons_parts}
-use Rattle.graph_text.specs.Parts.{Skips}
-use Rattle.graph_text.specs.Grammar.{IsLabel, Lacks, AreLabels, LabelsFail, NoLabels}
-use Rattle.graph_text.specs.Reading.{IsPlace}
-use Rattle.graph_text.proofs.Places.{skips_none, skipped_bare, skip_twice}
+use Rattle.av_text.specs.Parts.{Skips}
+use Rattle.av_text.specs.Parts.{Lacks}
+use Rattle.graph_text.specs.Grammar.{IsLabel, AreLabels, LabelsFail, NoLabels}
+use Rattle.av_text.specs.Parts.{IsPlace}
+use Rattle.av_text.proofs.Places.{skips_none, skipped_bare, skip_twice}
 
 pub label_same : {text n m r s : List ℕ} → IsLabel text n r → IsLabel text m s → (n ≡ m) × (r ≡ s)
 label_same {text} {n} {m} {r} {s} a b =

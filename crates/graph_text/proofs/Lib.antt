@@ -1,4 +1,3 @@
-mod Places
 mod LabelLemmas
 mod PartLemmas
 mod TotalLemmas

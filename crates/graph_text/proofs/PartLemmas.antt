@@ -1,52 +1,19 @@
 -- Each part of a filter has one reading at most, or one fault.
-use Rattle.std.proofs.Common.{◌≡◌, ◌==◌, false, ℕ, List, [], ◌∷◌, Option, Some, None, length, refl, sym, ◌∙◌, ap, subst, arith, inl, inr, eq-eqb}
+use Rattle.std.proofs.Common.{◌≡◌, ℕ, List, [], ◌∷◌, Option, Some, None, length, refl, sym, ◌∙◌, ap, arith, inl, inr}
 use Rattle.av_base.specs.declared.containers.Text.{Text}
 use Rattle.av_text.specs.Classes.{is_name, Stops, IsRun}
 use Rattle.av_text.specs.declared.arguments.Arg.{Arg}
 use Rattle.av_text.specs.declared.fault.TextKind.{TextKind}
 use Rattle.av_text.proofs.Runs.{same_run}
+use Rattle.av_text.proofs.PartLaws.{Lawful, Pair, in_turn, lacks_not}
 use Rattle.av_text.proofs.ReadingLemmas.{cons_parts, one_token, one_fault, not_both}
 use Rattle.av_text.proofs.ArgLemmas.{one_list, one_args_fault, args_or_fault}
-use Rattle.graph_text.specs.Parts.{Skips, Either}
-use Rattle.graph_text.specs.Grammar.{Lacks, AreLabels, LabelsFail, NoLabels, IsName, NoName, IsInstance, NoInstance, ends, AreArguments, NoArguments, NoFilter}
+use Rattle.av_text.specs.Parts.{Skips}
+use Rattle.graph_text.specs.Grammar.{AreLabels, LabelsFail, NoLabels, IsName, NoName, IsInstance, NoInstance, ends, AreArguments, NoArguments, NoFilter}
 use Rattle.graph_text.specs.Grammar.{IsFilter}
 use Rattle.graph_text.specs.declared.graph.FilterCall.{FilterCall}
-use Rattle.graph_text.proofs.Places.{skip_same}
+use Rattle.av_text.proofs.Places.{skip_same}
 use Rattle.graph_text.proofs.LabelLemmas.{label_same}
-
--- ---- parts in general
-
--- a text begins with one such part at most, or has one fault
-pub record Lawful {X : Type 0} (P : List ℕ → X → List ℕ → Type 0) (F : List ℕ → TextKind → List ℕ → Type 0) : Type 0 where
-  pub same : {text r s : List ℕ} {x y : X} → P text x r → P text y s → (x ≡ y) × (r ≡ s)
-  pub fault : {text r s : List ℕ} {k l : TextKind} → F text k r → F text l s → (k ≡ l) × (r ≡ s)
-  pub apart : {text r s : List ℕ} {x : X} {k : TextKind} → P text x r → F text k s → ⊥
-
--- two parts, one behind the other
-abbrev pub Pair : {X Y : Type 0} → (List ℕ → X → List ℕ → Type 0) → (List ℕ → Y → List ℕ → Type 0) → List ℕ → X × Y → List ℕ → Type 0
-Pair P Q text z rest = (middle : List ℕ) × P text z.0 middle × Q middle z.1 rest
-
-pub in_turn : {X Y : Type 0} {P : List ℕ → X → List ℕ → Type 0} {Q : List ℕ → Y → List ℕ → Type 0} {F G : List ℕ → TextKind → List ℕ → Type 0} → Lawful P F → Lawful Q G → Lawful (Pair P Q) (Either P F G)
-in_turn {X = X} {Y = Y} {P} {Q} {F} {G} a b = record { same = same; fault = fault; apart = apart } where
-  same : {text r s : List ℕ} {x y : X × Y} → Pair P Q text x r → Pair P Q text y s → (x ≡ y) × (r ≡ s)
-  same {text} {r} {s} {x} {y} p q =
-      let first = a.same p.1 q.1 in
-      let second = b.same (subst (λ (m : List ℕ). Q m x.1 r) first.1 p.2) q.2 in
-      (let pair : X → Y → X × Y = λ u v. (u, v) in ap (λ (u : X). pair u x.1) first.0 ∙ ap (pair y.0) second.0, second.1)
-
-  fault : {text r s : List ℕ} {k l : TextKind} → Either P F G text k r → Either P F G text l s → (k ≡ l) × (r ≡ s)
-  fault (inl p) (inl q) = a.fault p q
-  fault (inl p) (inr q) = absurd (a.apart q.2 p)
-  fault (inr p) (inl q) = absurd (a.apart p.2 q)
-  fault {r = r} {k = k} (inr p) (inr q) = b.fault (subst (λ (m : List ℕ). G m k r) (a.same p.2 q.2).1 p.3) q.3
-
-  apart : {text r s : List ℕ} {x : X × Y} {k : TextKind} → Pair P Q text x r → Either P F G text k s → ⊥
-  apart p (inl q) = a.apart p.1 q
-  apart {s = s} {k = k} p (inr q) = b.apart p.2 (subst (λ (m : List ℕ). G m k s) (a.same q.2 p.1).1 q.3)
-
--- a text that begins with a mark doesn't lack it
-pub lacks_not : (mark : ℕ) {text rest : List ℕ} → text ≡ mark ∷ rest → Lacks mark text → ⊥
-lacks_not mark {text} {rest} e h = let yes = eq-eqb mark mark refl in let no : (mark == mark) ≡ false = subst (Lacks mark) e h in cc
 
 -- ---- labels
 

@@ -11,13 +11,15 @@ use Rattle.av_text.specs.declared.fault.TextKind.TheVariants.{ExpectedName, BadL
 use Rattle.av_text.proofs.TotalLemmas.{span, first_mark, token_or_fault, args_or_none}
 use Rattle.av_text.proofs.ReadingLemmas.{cons_parts}
 use Rattle.av_text.proofs.ArgLemmas.{token_front}
-use Rattle.graph_text.specs.Parts.{Skips, Either}
-use Rattle.graph_text.specs.Grammar.{Lacks, IsLabel, AreLabels, NoLabels, IsName, NoName, IsInstance, NoInstance, ends, AreArguments, NoArguments, IsFilter, NoFilter}
+use Rattle.av_text.specs.Parts.{Skips, Either}
+use Rattle.av_text.specs.Parts.{Lacks}
+use Rattle.graph_text.specs.Grammar.{IsLabel, AreLabels, NoLabels, IsName, NoName, IsInstance, NoInstance, ends, AreArguments, NoArguments, IsFilter, NoFilter}
 use Rattle.graph_text.specs.Graphs.{AreCalls, CallsFail, flags_mark, IsBody, NoBody, IsGraph, IsGraphFault}
 use Rattle.graph_text.specs.declared.graph.FilterCall.{FilterCall}
-use Rattle.graph_text.proofs.Places.{skips_none, skip_same}
+use Rattle.av_text.proofs.Places.{skips_none, skip_same}
 use Rattle.graph_text.proofs.LabelLemmas.{no_characters, no_closing, label_front}
-use Rattle.graph_text.proofs.PartLemmas.{Pair, FilterParts, lacks_not}
+use Rattle.av_text.proofs.PartLaws.{Pair, lacks_not}
+use Rattle.graph_text.proofs.PartLemmas.{FilterParts}
 
 -- ---- marks
 

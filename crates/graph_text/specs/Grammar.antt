@@ -1,6 +1,6 @@
 -- Filters and their parts (FFmpeg Filters Documentation, "Filtergraph syntax"). White space may stand before, between and
 -- behind all parts.
-use Rattle.std.specs.Prelude.{◌≡◌, ◌==◌, ◌<◌, ◌+◌, ◌⊎◌, ℕ, List, [], ◌∷◌, Option, Some, None, length}
+use Rattle.std.specs.Prelude.{◌≡◌, ◌<◌, ◌+◌, ◌⊎◌, ℕ, List, [], ◌∷◌, Option, Some, None, length}
 use Rattle.av_base.specs.declared.containers.Text.{Text}
 use Rattle.av_text.specs.Classes.{is_name, is_label, Stops, IsRun}
 use Rattle.av_text.specs.Tokens.{IsToken}
@@ -9,12 +9,8 @@ use Rattle.av_text.specs.Arguments.{AreArgs, IsArgsFault}
 use Rattle.av_text.specs.declared.arguments.Arg.{Arg}
 use Rattle.av_text.specs.declared.fault.TextKind.{TextKind}
 use Rattle.av_text.specs.declared.fault.TextKind.TheVariants.{ExpectedName, BadLabel}
-use Rattle.graph_text.specs.Parts.{Skips, Either}
+use Rattle.av_text.specs.Parts.{Skips, Lacks, Either}
 use Rattle.graph_text.specs.declared.graph.FilterCall.{FilterCall}
-
--- the text doesn't begin with this character
-abbrev pub Lacks : ℕ → List ℕ → Type 0
-Lacks mark text = Stops (λ c. c == mark) text
 
 -- ---- labels
 

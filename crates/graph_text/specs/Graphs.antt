@@ -3,7 +3,7 @@ use Rattle.std.specs.Prelude.{◌≡◌, ◌≢◌, ◌+◌, ◌++◌, ◌⊎◌
 use Rattle.std.specs.List.{Contains}
 use Rattle.av_text.specs.declared.fault.TextKind.{TextKind}
 use Rattle.av_text.specs.declared.fault.TextKind.TheVariants.{ExpectedName, Stray}
-use Rattle.graph_text.specs.Parts.{Skips}
+use Rattle.av_text.specs.Parts.{Skips}
 use Rattle.graph_text.specs.Grammar.{IsFilter, NoFilter}
 use Rattle.graph_text.specs.declared.graph.FilterCall.{FilterCall}
 

@@ -1,4 +1,3 @@
-pub mod Parts
 pub mod Grammar
 pub mod Graphs
 pub mod Laws

@@ -1,15 +1,11 @@
 -- Places in a text, and the faults that calls answer.
-use Rattle.std.specs.Prelude.{◌≡◌, ◌≤◌, ◌+◌, ◌⊎◌, ℕ, List, [], ◌∷◌, Option, Some, None, length, drop}
-use Rattle.std.specs.Str.{IsCharBoundary}
+use Rattle.std.specs.Prelude.{◌≡◌, ◌+◌, ◌⊎◌, ℕ, List, [], ◌∷◌, Option, Some, None, length, drop}
 use Rattle.av_text.specs.declared.fault.TextFault.{TextFault}
-use Rattle.graph_text.specs.Parts.{NoPart}
-
--- a place at or behind another, between two characters
-abbrev pub IsPlace : List ℕ → ℕ → ℕ → Type 0
-IsPlace text from place = (from ≤ place) × IsCharBoundary text place
+use Rattle.av_text.specs.declared.fault.TextKind.{TextKind}
+use Rattle.av_text.specs.Parts.{NoPart}
 
 -- no such part stands at a place of the text, and this is the fault
-abbrev pub FailsAt : NoPart → List ℕ → ℕ → TextFault → Type 0
+abbrev pub FailsAt : NoPart TextKind → List ℕ → ℕ → TextFault → Type 0
 FailsAt F text place f = (bad : List ℕ) × F (drop place text) f.kind bad × (f.at + length bad ≡ length text)
 
 -- what stands behind a filter of this chain: nothing, or a mark and a filter of the next chain or of the same

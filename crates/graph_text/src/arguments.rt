@@ -3,11 +3,12 @@ ghost use Rattle.std.specs.Prelude.{◌≡◌, ◌≤◌, ◌<◌, ◌+◌, ◌^
 ghost use Rattle.std.specs.Str.{IsCharBoundary};
 ghost use Rattle.av_text.specs.Faults.{IfFault};
 ghost use Rattle.graph_text.specs.Grammar.{AreArguments, NoArguments};
-ghost use Rattle.graph_text.specs.Reading.{IsPlace, FailsAt};
+ghost use Rattle.av_text.specs.Parts.{IsPlace};
+ghost use Rattle.graph_text.specs.Reading.{FailsAt};
 
-use crate::names::{fault, skip};
+use crate::names::fault;
 use av_base::List;
-use av_text::{Arg, TextError, next_token, split_args};
+use av_text::{Arg, TextError, next_token, skip_white, split_args};
 use std::alloc::Global;
 
 /// What ends a filter's arguments.
@@ -25,11 +26,11 @@ pub(crate) fn read_arguments(
     ensures later { IfOk result (λ t. IsPlace text.now place t.1) }
     ensures fault { IfFault result (FailsAt NoArguments text.now place) }
 {
-    let place = skip(text, place);
+    let place = skip_white(text, place);
     if !text[place..].starts_with('=') {
         return Ok((List::new(Vec::new(alloc)), place));
     }
-    let start = skip(text, place + 1);
+    let start = skip_white(text, place + 1);
     let (token, end) = next_token(alloc, text, start, ENDS)?;
     match split_args(alloc, token.as_str()) {
         Ok(args) => Ok((args, end)),

@@ -3,7 +3,8 @@ ghost use Rattle.std.specs.Prelude.{◌≡◌, ◌≤◌, ◌<◌, ◌+◌, ◌^
 ghost use Rattle.std.specs.Str.{IsCharBoundary};
 ghost use Rattle.av_text.specs.Faults.{IfFault};
 ghost use Rattle.graph_text.specs.Grammar.{IsFilter, NoFilter};
-ghost use Rattle.graph_text.specs.Reading.{IsPlace, FailsAt};
+ghost use Rattle.av_text.specs.Parts.{IsPlace};
+ghost use Rattle.graph_text.specs.Reading.{FailsAt};
 
 use crate::FilterCall;
 use crate::arguments::read_arguments;

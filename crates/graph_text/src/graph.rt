@@ -4,13 +4,14 @@ ghost use Rattle.std.specs.Str.{IsCharBoundary};
 ghost use Rattle.av_text.specs.Faults.{IfFault, IsFaultAt, Gives, Refuses};
 ghost use Rattle.av_text.specs.declared.fault.TextKind.{TextKind};
 ghost use Rattle.graph_text.specs.Graphs.{IsStray, IsBody, NoBody, IsGraph, IsGraphFault};
-ghost use Rattle.graph_text.specs.Reading.{IsPlace, FailsAt, IsNext};
+ghost use Rattle.av_text.specs.Parts.{IsPlace};
+ghost use Rattle.graph_text.specs.Reading.{FailsAt, IsNext};
 ghost use Rattle.graph_text.specs.declared.graph.FilterCall.{FilterCall};
 
 use crate::filter::read_filter;
-use crate::names::{fault, skip};
+use crate::names::fault;
 use av_base::{List, Text};
-use av_text::{Arg, TextError, TextKind};
+use av_text::{Arg, TextError, TextKind, skip_white};
 use std::alloc::Global;
 
 /// A call of a filter.
@@ -49,7 +50,7 @@ fn find_body(text: &str) -> Result<usize, TextError>
     ensures later { IfOk result (IsPlace text.now 0) }
     ensures fault { IfFault result (FailsAt NoBody text.now 0) }
 {
-    let start = skip(text, 0);
+    let start = skip_white(text, 0);
     let Some(flags) = text[start..].strip_prefix(FLAGS) else {
         return Ok(0);
     };

@@ -3,11 +3,12 @@ ghost use Rattle.std.specs.Prelude.{◌≡◌, ◌≤◌, ◌<◌, ◌+◌, ◌^
 ghost use Rattle.std.specs.Str.{IsUtf8, IsCharBoundary};
 ghost use Rattle.av_text.specs.Faults.{IfFault};
 ghost use Rattle.graph_text.specs.Grammar.{IsLabel, AreLabels, NoLabels};
-ghost use Rattle.graph_text.specs.Reading.{IsPlace, FailsAt};
+ghost use Rattle.av_text.specs.Parts.{IsPlace};
+ghost use Rattle.graph_text.specs.Reading.{FailsAt};
 
-use crate::names::{fault, skip};
+use crate::names::fault;
 use av_base::{List, Text};
-use av_text::{Class, TextError, TextKind, split_run};
+use av_text::{Class, TextError, TextKind, skip_white, split_run};
 use std::alloc::Global;
 
 /// The name of the label that a text begins with, and the text behind it.
@@ -41,13 +42,13 @@ pub(crate) fn read_labels(
     ensures fault { IfFault result (FailsAt NoLabels text.now start) }
 {
     let mut labels = Vec::new(alloc);
-    let mut place = skip(text, start);
+    let mut place = skip_white(text, start);
     'labels: while text[place..].starts_with('[') {
         let Some((name, rest)) = split_label(&text[place..]) else {
             return Err(fault(place, TextKind::BadLabel));
         };
         labels.push(Text::new(String::from_str(alloc, name)?))?;
-        place = skip(text, text.len() - rest.len());
+        place = skip_white(text, text.len() - rest.len());
     }
     Ok((List::new(labels), place))
 }

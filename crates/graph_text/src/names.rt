@@ -2,23 +2,14 @@
 ghost use Rattle.std.specs.Prelude.{◌≡◌, ◌≤◌, ◌<◌, ◌+◌, ◌^◌, ℕ, List, length, drop, IfOk};
 ghost use Rattle.std.specs.Str.{IsCharBoundary};
 ghost use Rattle.av_text.specs.Faults.{IfFault};
-ghost use Rattle.graph_text.specs.Parts.{Skips};
+ghost use Rattle.av_text.specs.Parts.{Skips};
 ghost use Rattle.graph_text.specs.Grammar.{IsName, NoName, IsInstance, NoInstance};
-ghost use Rattle.graph_text.specs.Reading.{IsPlace, FailsAt};
+ghost use Rattle.av_text.specs.Parts.{IsPlace};
+ghost use Rattle.graph_text.specs.Reading.{FailsAt};
 
 use av_base::Text;
-use av_text::{Class, TextError, TextFault, TextKind, split_run};
+use av_text::{Class, TextError, TextFault, TextKind, skip_white, split_run};
 use std::alloc::Global;
-
-/// The place behind the white space that stands at a place.
-pub(crate) fn skip(text: &str, place: usize) -> usize
-    requires { IsCharBoundary text.now place }
-    ensures skips { Skips (drop place text.now) (drop result text.now) }
-    ensures later { IsPlace text.now place result }
-{
-    let (_, rest) = split_run(&text[place..], Class::White);
-    text.len() - rest.len()
-}
 
 /// The fault of a kind at a place.
 pub(crate) fn fault(place: usize, kind: TextKind) -> TextError
@@ -57,11 +48,11 @@ pub(crate) fn read_instance(
     ensures later { IfOk result (λ t. IsPlace text.now place t.1) }
     ensures fault { IfFault result (FailsAt NoInstance text.now place) }
 {
-    let place = skip(text, place);
+    let place = skip_white(text, place);
     if !text[place..].starts_with('@') {
         return Ok((None, place));
     }
-    let named = skip(text, place + 1);
+    let named = skip_white(text, place + 1);
     let (name, end) = read_name(alloc, text, named)?;
     Ok((Some(name), end))
 }

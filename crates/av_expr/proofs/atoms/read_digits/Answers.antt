@@ -1,6 +1,6 @@
 use Rattle.av_text.specs.Classes.{is_digit}
 use Rattle.av_expr.proofs.AtomLemmas.{run_here, nineteenth}
-use Rattle.av_expr.proofs.Places.{later_place}
+use Rattle.av_text.proofs.Places.{later_place}
 use Rattle.av_expr.proofs.atoms.read_digits.Goals as goal
 
 pub returns-then-digits-gt-MOST-clause-fault : goal.returns-then-digits-gt-MOST-clause-fault

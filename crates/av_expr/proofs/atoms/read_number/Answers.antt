@@ -2,7 +2,7 @@ use Rattle.std.proofs.Common.{◌≡◌, ◌==◌, ◌+◌, true, drop, lit<, ru
 use Rattle.std.specs.Prelude.{slice_index}
 use Rattle.av_expr.specs.Grammar.{NoDigits, NoNumber}
 use Rattle.av_expr.specs.Reading.{FailsAt}
-use Rattle.av_expr.proofs.Places.{begins_at}
+use Rattle.av_text.proofs.Places.{begins_at}
 use Rattle.std.proofs.lemmas.Result.{err_from_is_err_and}
 use Rattle.av_expr.proofs.AtomLemmas.{digits_of_run, short_range, part_fault}
 use Rattle.av_expr.proofs.AnswerLemmas.{fault_handed}

@@ -1,5 +1,5 @@
 use Rattle.std.proofs.Common.{◌+◌, drop, refl, inl, inr}
-use Rattle.graph_text.proofs.Places.{byte_at}
+use Rattle.av_text.proofs.Places.{byte_at}
 use Rattle.graph_text.proofs.graph.chain_behind.Goals as goal
 
 pub returns-in-Some-eq44-clause-next : goal.returns-in-Some-eq44-clause-next

@@ -1,6 +1,6 @@
 use Rattle.std.proofs.Common.{length, sym, lit<}
 use Rattle.std.proofs.lemmas.Bool.{eqb-true}
-use Rattle.graph_text.proofs.Places.{some_from_test}
+use Rattle.av_text.proofs.Places.{some_from_test}
 use Rattle.graph_text.proofs.LabelLemmas.{mark_front, no_opening, no_characters, no_closing}
 use Rattle.graph_text.proofs.labels.split_label.Goals as goal
 

@@ -1,5 +1,5 @@
 use Rattle.std.proofs.Common.{◌≡◌, length, ◌∙◌}
-use Rattle.graph_text.proofs.Places.{later_rest, later_place, some_from_test}
+use Rattle.av_text.proofs.Places.{later_rest, later_place, some_from_test}
 use Rattle.graph_text.proofs.names.read_name.Goals as goal
 
 pub returns-clause-name : goal.returns-clause-name

@@ -1,5 +1,5 @@
-use Rattle.av_expr.proofs.Places.{later_rest, later_place}
-use Rattle.av_expr.proofs.atoms.skip.Goals as goal
+use Rattle.av_text.proofs.Places.{later_rest, later_place}
+use Rattle.av_text.proofs.classes.skip_white.Goals as goal
 
 pub returns-clause-skips : goal.returns-clause-skips
 returns-clause-skips c =

@@ -6,10 +6,8 @@ use Rattle.std.specs.Str.{IsUtf8}
 use Rattle.std.proofs.lemmas.List.{take-append-drop, length-append, length-drop, drop-drop, drop_more}
 use Rattle.av_text.specs.Classes.{is_white, Stops}
 use Rattle.av_text.proofs.Runs.{same_run}
-use Rattle.graph_text.specs.Grammar.{Lacks}
 use Rattle.av_text.proofs.TokenLemmas.{rest_at, place_boundary}
-use Rattle.graph_text.specs.Parts.{Skips}
-use Rattle.graph_text.specs.Reading.{IsPlace}
+use Rattle.av_text.specs.Parts.{Skips, Lacks, IsPlace}
 
 -- what stands behind a front that begins at a place begins at its own place
 pub later_rest : (text : List ℕ) (place : ℕ) (front rest : List ℕ) → drop place text ≡ front ++ rest → drop (length text - length rest) text ≡ rest
