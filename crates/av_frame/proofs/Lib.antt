@@ -7,3 +7,5 @@ mod EachLemmas
 pub mod HistoryLemmas
 mod WholeLemmas
 mod SmallFilterLemmas
+pub mod WordLemmas
+mod OptionLemmas

@@ -11,6 +11,10 @@ pub mod StreamLemmas
 pub mod HeldLaws
 pub mod EachLaws
 pub mod Whole
+pub mod Words
+pub mod WordLaws
+pub mod Options
+pub mod OptionLaws
 pub mod OneLaws
 pub mod SmallFilters
 pub mod SmallFilterLaws

@@ -1,4 +1,4 @@
-use Rattle.std.proofs.Common.{◌==◌, ◌∙◌, arith, refl}
+use Rattle.std.proofs.Common.{◌==◌, arith, refl}
 use Rattle.av_frame.proofs.SmallFilterLemmas.{first_none, lawful_take}
 use Rattle.av_frame.proofs.small_filters.FirstFrames.new.Goals as goal
 

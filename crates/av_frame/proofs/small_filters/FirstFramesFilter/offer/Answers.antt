@@ -1,4 +1,4 @@
-use Rattle.std.proofs.Common.{◌-◌, ◌==◌, ◌||◌}
+use Rattle.std.proofs.Common.{◌-◌}
 use Rattle.av_frame.specs.OneLaws.{one_takes}
 use Rattle.av_frame.specs.SmallFilters.{first_stream}
 use Rattle.av_frame.proofs.SmallFilterLemmas.{first_takes}
