@@ -1,0 +1,12 @@
+mod PaintedLemmas
+pub mod WorthLemmas
+pub mod GeometryLemmas
+pub mod CropLemmas
+mod ShuffleLemmas
+mod TurnLemmas
+pub mod DefaultLemmas
+pub mod LutyuvLemmas
+pub mod PadLemmas
+pub mod PasteLemmas
+mod SmallLemmas
+mod FormatLemmas

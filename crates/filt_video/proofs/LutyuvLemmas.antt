@@ -1,0 +1,50 @@
+-- Tables of samples.
+use Rattle.std.proofs.Common.{◌≡◌, ◌<◌, ◌+◌, inl, inr, ℕ, ℤ, List, get_or, sym, ◌∙◌, subst, arith}
+use Rattle.std.specs.Prelude.{pos, unsigned_abs, length}
+use Rattle.std.proofs.Math.ListN.{set}
+use Rattle.std.proofs.lemmas.Bool.{cases_eq}
+use Rattle.std.proofs.lemmas.List.{get_or-set_same, get_or-set_other}
+use Rattle.std.proofs.lemmas.Int.{ints}
+use Rattle.av_base.specs.Shapes.{planes_of, width_of, height_of}
+use Rattle.av_base.specs.declared.shapes.Shape.{Shape}
+use Rattle.av_frame.specs.declared.refusals.ConfigError.{ConfigError}
+use Rattle.av_frame.specs.declared.refusals.ConfigError.TheVariants.{NoValue}
+use Rattle.av_expr.specs.Trees.{Tree}
+use Rattle.av_expr.specs.Fractions.{IsCut}
+use Rattle.av_expr.specs.declared.fraction.Fraction.{Fraction}
+use Rattle.filt_video.specs.Worth.{IsWorth, IsWorthless}
+use Rattle.filt_video.specs.Geometry.{within, PassesLimit}
+use Rattle.filt_video.specs.Lutyuv.{expression_for, at_sample, IsEntry, AreTables, IsLutyuvFault, NoEntry, Large}
+use Rattle.filt_video.specs.declared.lutyuv.LutyuvOptions.{LutyuvOptions}
+use Rattle.filt_video.proofs.CropLemmas.{within_room}
+
+-- what holds of each of the first members holds of one more, where it is put
+pub set_more : {X : Type 0} (P : ℕ → X → Type 0) (xs : List X) (n : ℕ) (x d : X) → ((i : ℕ) → i < n → P i (get_or xs i d)) → n < length xs → P n x
+    → (i : ℕ) → i < n + 1 → P i (get_or (set xs n x) i d)
+set_more P xs n x d before room here i less = elim (cases_eq i n) [
+  | inl same ↦ rw (same, get_or-set_same xs n x d room) here
+  | inr apart ↦ rw (get_or-set_other xs n i x d apart) (before i (omega (arith, apart)))
+]
+
+pub entry_is : (tree : Tree) (plane val : ℕ) (value : Fraction) (z : ℤ) {n : ℤ} → IsWorth tree (at_sample plane val) value → IsCut value z
+    → n ≡ within (pos 0) (pos 255) z → IsEntry tree plane val (unsigned_abs n)
+entry_is tree plane val value z {n} worth cut is =
+    let m = within_room 255 z in
+    let e : n ≡ pos m.0 = is ∙ m.1 in
+    record { value = value; worth = worth; z = z; cut = cut; n_is = rw e (sym m.1) }
+
+-- no value at a sample of a plane, where each plane before has its table
+pub no_entry : (o : LutyuvOptions) (s : Shape) (plane : ℕ) (tables : List (List ℕ)) (e : ConfigError) → plane < planes_of s → AreTables o plane tables
+    → e ≡ NoValue plane → (val : ℕ) → val < 256 → IsWorthless (expression_for o plane) (at_sample plane val) → IsLutyuvFault o s e
+no_entry o s plane tables e less before is val low none = subst (IsLutyuvFault o s) (sym is) (NoEntry plane val tables less low before none)
+
+pub past_limit : (o : LutyuvOptions) (s : Shape) (tables : List (List ℕ)) (e : ConfigError) → AreTables o (planes_of s) tables
+    → PassesLimit s (width_of s.props) (height_of s.props) e → IsLutyuvFault o s e
+past_limit o s tables e all large = Large tables e all large
+
+-- the entries of tables are samples
+pub entry_small : {tree : Tree} {plane val n : ℕ} → IsEntry tree plane val n → n < 256
+entry_small {n = n} e =
+    let m = within_room 255 e.z in
+    let same : pos n ≡ pos m.0 = e.n_is ∙ m.1 in
+    omega (arith, ints, same, m.2)

@@ -1,0 +1,13 @@
+pub mod Maps
+pub mod Hflip
+pub mod Vflip
+pub mod Negate
+pub mod Worth
+pub mod Geometry
+pub mod Crop
+pub mod Shuffleplanes
+pub mod Transpose
+pub mod TransposeRules
+pub mod Lutyuv
+pub mod Pad
+pub mod Formats

@@ -1,0 +1,97 @@
+-- Samples replaced by what an expression makes of them (FFmpeg Filters Documentation, lutyuv; that `val` is the default
+-- is this project's own).
+use Rattle.std.specs.Prelude.{◌≡◌, ◌<◌, ◌+◌, ◌-◌, ◌==◌, ℕ, ℤ, pos, min, max, List, [], ◌∷◌, Option, codes, slice_index, slice_index_or, if◌then◌else◌}
+use Rattle.av_base.specs.Shapes.{planes_of, width_of, height_of}
+use Rattle.av_base.specs.declared.shapes.Shape.{Shape}
+use Rattle.av_expr.specs.Exprs.{IsExpr}
+use Rattle.av_expr.specs.Fractions.{zero_fraction, IsCut}
+use Rattle.av_expr.specs.Trees.{Tree}
+use Rattle.av_expr.specs.declared.vars.Var.{Var}
+use Rattle.av_expr.specs.declared.vars.Var.TheVariants.{Val, MinVal, MaxVal, NegVal}
+use Rattle.av_expr.specs.declared.fraction.Fraction.{Fraction}
+use Rattle.av_frame.specs.Frames.{FrameValue}
+use Rattle.av_frame.specs.declared.refusals.ConfigError.{ConfigError}
+use Rattle.av_frame.specs.declared.refusals.ConfigError.TheVariants.{NoValue}
+use Rattle.filt_video.specs.Maps.{sample}
+use Rattle.filt_video.specs.Worth.{set_of, given, whole, IsWorth, IsWorthless}
+use Rattle.filt_video.specs.Geometry.{within, IsSmall, PassesLimit}
+use Rattle.filt_video.specs.declared.lutyuv.LutyuvOptions.{LutyuvOptions}
+use Rattle.filt_video.specs.declared.lutyuv.LutyuvSettings.{LutyuvSettings}
+
+-- ---- options
+
+abbrev pub lutyuv_names : List (List ℕ × ℕ)
+lutyuv_names = (codes "y", 0) ∷ (codes "u", 1) ∷ (codes "v", 2) ∷ (codes "a", 3) ∷ []
+
+abbrev pub sample_vars : List Var
+sample_vars = Val ∷ MinVal ∷ MaxVal ∷ NegVal ∷ []
+
+-- the expression for a plane
+abbrev pub expression_for : LutyuvOptions → ℕ → Tree
+expression_for o plane = if plane == 0 then o.y else (if plane == 1 then o.u else (if plane == 2 then o.v else o.a))
+
+-- the expression is what the text says, or `val`
+abbrev pub IsSaid : Option (List ℕ) → Tree → Type 0
+IsSaid text tree = IsExpr (set_of sample_vars) (given (codes "val") text) tree
+
+-- the options have at o what the text says
+pub record LutyuvHas (options : LutyuvOptions) (o : ℕ) (text : Option (List ℕ)) : Type 0 where
+  pub y : o ≡ 0 → IsSaid text options.y
+  pub u : o ≡ 1 → IsSaid text options.u
+  pub v : o ≡ 2 → IsSaid text options.v
+  pub a : o ≡ 3 → IsSaid text options.a
+
+-- ---- the picture
+
+-- out(p, r, c) is what the table of plane p has for in(p, r, c)
+abbrev pub looked_up : List (List ℕ) → FrameValue → ℕ → ℕ → ℕ → ℕ
+looked_up tables x p r c = slice_index (slice_index_or tables p []) (sample x p r c)
+
+-- ---- the settings
+
+-- the least and the greatest lawful sample of a plane: 16 to 235 in Y, 16 to 240 in U and V, 0 to 255 in A
+abbrev pub least_of : ℕ → ℕ
+least_of plane = if plane == 3 then 0 else 16
+
+abbrev pub most_of : ℕ → ℕ
+most_of plane = if plane == 0 then 235 else (if plane == 3 then 255 else 240)
+
+-- the sample, brought between them, as far from the one as it is from the other
+abbrev pub negated_in : ℕ → ℕ → ℕ
+negated_in plane val = (most_of plane + least_of plane) - max (least_of plane) (min val (most_of plane))
+
+-- what the variables stand for at a sample
+abbrev pub at_sample : ℕ → ℕ → Var → Fraction
+at_sample plane val Val = whole (pos val)
+at_sample plane val MinVal = whole (pos (least_of plane))
+at_sample plane val MaxVal = whole (pos (most_of plane))
+at_sample plane val NegVal = whole (pos (negated_in plane val))
+at_sample plane val other = zero_fraction
+
+-- the value at a sample, cut, and brought into 0 to 255
+pub record IsEntry (tree : Tree) (plane val n : ℕ) : Type 0 where
+  pub value : Fraction
+  pub worth : IsWorth tree (at_sample plane val) value
+  pub z : ℤ
+  pub cut : IsCut value z
+  pub n_is : pos n ≡ within (pos 0) (pos 255) z
+
+-- the table of all samples from 0 to 255
+abbrev pub IsTable : Tree → ℕ → List ℕ → Type 0
+IsTable tree plane table = (val : ℕ) → val < 256 → IsEntry tree plane val (slice_index table val)
+
+-- each of the first planes has its table
+abbrev pub AreTables : LutyuvOptions → ℕ → List (List ℕ) → Type 0
+AreTables o planes tables = (p : ℕ) → p < planes → IsTable (expression_for o p) p (slice_index_or tables p [])
+
+-- the settings that the options give for pictures of a shape
+pub record IsLutyuv (o : LutyuvOptions) (s : Shape) (t : LutyuvSettings) : Type 0 where
+  pub tables : AreTables o (planes_of s) t.tables
+  pub small : IsSmall s (width_of s.props) (height_of s.props)
+
+-- what stands against them: the first plane at a sample of which its expression has no value, then a limit
+pub data IsLutyuvFault (o : LutyuvOptions) (s : Shape) : ConfigError → Type 0 where
+  NoEntry : (plane val : ℕ) (tables : List (List ℕ)) → plane < planes_of s → val < 256 → AreTables o plane tables
+      → IsWorthless (expression_for o plane) (at_sample plane val) → IsLutyuvFault o s (NoValue plane)
+  Large : (tables : List (List ℕ)) (e : ConfigError) → AreTables o (planes_of s) tables → PassesLimit s (width_of s.props) (height_of s.props) e
+      → IsLutyuvFault o s e

@@ -1,0 +1,66 @@
+//! Expressions as options, and what they are worth.
+ghost use Rattle.std.specs.Prelude.{◌≡◌, ◌<◌, ◌^◌, ◌↔◌, ℕ, List, Some, IsTrue, length, IfOk, IfErr};
+ghost use Rattle.av_expr.specs.Trees.{Tree};
+ghost use Rattle.av_expr.specs.Exprs.{IsExpr};
+ghost use Rattle.av_expr.specs.Fractions.{IsLowest};
+ghost use Rattle.av_expr.specs.Values.{value_of};
+ghost use Rattle.av_expr.specs.declared.vars.Var.{Var};
+ghost use Rattle.av_expr.specs.declared.fraction.Fraction.{Fraction};
+ghost use Rattle.av_frame.specs.declared.refusals.ConfigError.TheVariants as config;
+ghost use Rattle.filt_video.specs.Worth.{IsWorth, IsWorthless};
+
+use av_base::NoMemory;
+use av_expr::{Expr, ExprError, Fraction, Values, VarSet, parse};
+use av_frame::ConfigError;
+use std::alloc::Global;
+
+/// Replaces an option's expression by what a text says. False where the text says none, or has 2^32 bytes or more.
+pub(crate) fn set_expr(
+    alloc: Global,
+    expr: &mut Expr,
+    text: &str,
+    variables: VarSet,
+) -> Result<bool, NoMemory>
+    ensures taken { IfOk result (λ taken. IsTrue taken ↔ (length text.now < 2 ^ 32) × ((tree : Tree) × IsExpr variables text.now tree)) }
+    ensures set { IfOk result (λ taken. IsTrue taken → IsExpr variables text.now expr.new) }
+{
+    if text.len() >= 1 << 32 {
+        return Ok(false);
+    }
+    match parse(alloc, text, variables) {
+        Ok(read) => {
+            *expr = read;
+            Ok(true)
+        }
+        Err(ExprError::Fault(_)) => Ok(false),
+        Err(ExprError::NoMemory) => Err(NoMemory),
+    }
+}
+
+/// The expression that a text says, which says one.
+pub(crate) fn default_expr(alloc: Global, text: &str, variables: VarSet) -> Result<Expr, NoMemory>
+    requires short { length text.now < 2 ^ 32 }
+    requires says { (tree : Tree) × IsExpr variables text.now tree }
+    ensures { IfOk result (IsExpr variables text.now) }
+{
+    match parse(alloc, text, variables) {
+        Ok(read) => Ok(read),
+        Err(ExprError::Fault(_)) => unreachable!(),
+        Err(ExprError::NoMemory) => Err(NoMemory),
+    }
+}
+
+/// The value of an option's expression.
+///
+/// # Errors
+/// `NoValue` with the option's number.
+pub(crate) fn worth(expr: &Expr, values: &Values, option: u32) -> Result<Fraction, ConfigError>
+    ensures ok { (f : Var → Fraction) → ((x : Var) → value_of values.now x ≡ f x) → IfOk result (IsWorth expr.now f) }
+    ensures lowest { IfOk result IsLowest }
+    ensures err { (f : Var → Fraction) → ((x : Var) → value_of values.now x ≡ f x) → IfErr result (λ e. (e ≡ config.NoValue option) × IsWorthless expr.now f) }
+{
+    match expr.eval(values) {
+        Ok(value) => Ok(value),
+        Err(_) => Err(ConfigError::NoValue { option }),
+    }
+}
