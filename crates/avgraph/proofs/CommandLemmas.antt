@@ -27,7 +27,7 @@ use Rattle.avgraph.specs.Answers.{BeginsFile, IsNotYet, open_text}
 use Rattle.avgraph.specs.Running.{Moves, MovesAll, MovesWhole, MovesPart, IsNoFrames, Runs, passed_text, stop_of_write}
 use Rattle.avgraph.specs.Commands.{LeavesAll, Leaves, OpensWell, OpensFile, CreatesWith, CreatesPart, CreatesFile, KeepsInputs, Finishes, Breaks, Stops, Commands, stop_of_opening, stop_of_head}
 use Rattle.avgraph.specs.declared.filters.Filter.{Filter}
-use Rattle.avgraph.specs.declared.fault.Fault.TheVariants.{NotYet, OpenFault, ReadFault, WriteFault, TextFault, Limit}
+use Rattle.avgraph.specs.declared.fault.Fault.TheVariants.{NotYet, OpenFault, ReadFault, WriteFault}
 use Rattle.avgraph.specs.declared.fault.Stop.{Stop}
 use Rattle.avgraph.specs.declared.fault.Stop.TheVariants as stop
 
@@ -258,9 +258,8 @@ open_refused limit filters a b input output (stop.Fault NotYet) h = (
 open_refused limit filters a b input output (stop.Fault OpenFault) h = inl h
 open_refused limit filters a b input output (stop.Fault ReadFault) h = inl h
 open_refused limit filters a b input output (stop.Fault WriteFault) h = inl h
-open_refused limit filters a b input output (stop.Fault (TextFault at kind)) h = absurd h
-open_refused limit filters a b input output (stop.Fault (Limit kind which allowed)) h = absurd h
 open_refused limit filters a b input output stop.NoMemory h = inl h
+open_refused limit filters a b input output other h = absurd h
 
 create_part : (filters : List Filter) {limit : ℕ} {a b c : World} {input output : List ℕ} {reader : Reading} {shape : Shape} → OpensWell limit a b input reader shape → CreatesPart b c output shape → Stops filters a c input output
 create_part filters o (inl l) = inl (created_none o l)
@@ -269,13 +268,10 @@ create_part filters o (inr k) = inr (begun_header o k.2 filters k.1 refl)
 -- the output was not created well
 pub create_refused : (limit : ℕ) (filters : List Filter) (a b c : World) (input output : List ℕ) (reader : Reading) (shape : Shape) (stops : Stop) → OpensWell limit a b input reader shape → CreatesFile b c output shape (Err stops)
     → Commands limit filters a c input output (Err stops)
-create_refused limit filters a b c input output reader shape (stop.Fault NotYet) o h = absurd h
 create_refused limit filters a b c input output reader shape (stop.Fault OpenFault) o h = create_part filters o h
-create_refused limit filters a b c input output reader shape (stop.Fault ReadFault) o h = absurd h
 create_refused limit filters a b c input output reader shape (stop.Fault WriteFault) o h = create_part filters o h
-create_refused limit filters a b c input output reader shape (stop.Fault (TextFault at kind)) o h = absurd h
-create_refused limit filters a b c input output reader shape (stop.Fault (Limit kind which allowed)) o h = absurd h
 create_refused limit filters a b c input output reader shape stop.NoMemory o h = create_part filters o h
+create_refused limit filters a b c input output reader shape other o h = absurd h
 
 -- the loop ran
 pub commands : (limit : ℕ) (filters : List Filter) (a b c d : World) (input output : List ℕ) (reader : Reading) (shape : Shape) (writer : Writing) (result : Result (Unit {0}) Stop) → OpensWell limit a b input reader shape
@@ -287,9 +283,7 @@ commands limit filters a b c d input output reader shape writer (Err (stop.Fault
   no_file o k filters refl (subst (λ (n : ℕ). ForSome (c.inputs.left reader.id) (IsNoFrames shape n)) (ap (λ (v : Reading). v.room) o.reader_is)
       (subst (λ (s : Shape). ForSome (c.inputs.left reader.id) (IsNoFrames s reader.room)) e r.1)),
 )
-commands limit filters a b c d input output reader shape writer (Err (stop.Fault OpenFault)) o k e r = absurd r
 commands limit filters a b c d input output reader shape writer (Err (stop.Fault ReadFault)) o k e r = inr (stopped_part o k filters refl (subst (λ (s : Shape). MovesPart s filters c d reader.id writer.id) e r))
 commands limit filters a b c d input output reader shape writer (Err (stop.Fault WriteFault)) o k e r = inr (stopped_part o k filters refl (subst (λ (s : Shape). MovesPart s filters c d reader.id writer.id) e r))
-commands limit filters a b c d input output reader shape writer (Err (stop.Fault (TextFault at kind))) o k e r = absurd r
-commands limit filters a b c d input output reader shape writer (Err (stop.Fault (Limit kind which allowed))) o k e r = absurd r
 commands limit filters a b c d input output reader shape writer (Err stop.NoMemory) o k e r = inr (stopped_part o k filters refl (subst (λ (s : Shape). MovesPart s filters c d reader.id writer.id) e r))
+commands limit filters a b c d input output reader shape writer (Err other) o k e r = absurd r

@@ -99,6 +99,7 @@ cause (Err (stop.Fault WriteFault)) old mid new status k r =
       reading_forces = λ h. absurd (omega arith);
       writing_forces = λ h. s;
     }
+cause (Err other) old mid new status k r = let s : status ≡ 2 = r.0 in still old status k r.1 (λ h. omega arith) (λ h. omega arith) (λ h. omega arith)
 
 pub has_cause : (limit : ℕ) (words : List (List ℕ)) (outcome : Result (Unit {0}) Stop) (old mid new : World) (status : ℕ) → Obeys limit words old mid outcome → Reports mid new outcome status
     → HasCause old.faults new.faults status
@@ -115,6 +116,7 @@ some_status (stop.Fault WriteFault) e = omega arith
 some_status (stop.Fault (TextFault at kind)) e = omega arith
 some_status (stop.Fault (Limit kind which allowed)) e = omega arith
 some_status stop.NoMemory e = omega arith
+some_status other e = omega arith
 
 module _ (limit : ℕ) (filters : List Filter) (old mid new : World) (input output : List ℕ) (status : ℕ) where
   pub done : (outcome : Result (Unit {0}) Stop) → Commands limit filters old mid input output outcome → Reports mid new outcome status → status ≡ 0 → ForSome (old.held input) (Done limit filters old new output)
@@ -130,9 +132,8 @@ module _ (limit : ℕ) (filters : List Filter) (old mid new : World) (input outp
   not_yet (Err (stop.Fault OpenFault)) k r s = let h : status ≡ 11 = r.0 in absurd (omega arith)
   not_yet (Err (stop.Fault ReadFault)) k r s = let h : status ≡ 12 = r.0 in absurd (omega arith)
   not_yet (Err (stop.Fault WriteFault)) k r s = let h : status ≡ 13 = r.0 in absurd (omega arith)
-  not_yet (Err (stop.Fault (TextFault at kind))) k r s = absurd k
-  not_yet (Err (stop.Fault (Limit kind which allowed))) k r s = absurd k
   not_yet (Err stop.NoMemory) k r s = let h : status ≡ 14 = r.0 in absurd (omega arith)
+  not_yet (Err other) k r s = absurd k
 
   pub complete : (outcome : Result (Unit {0}) Stop) → Commands limit filters old mid input output outcome → CountsStop outcome old.faults mid.faults → Reports mid new outcome status
       → IsQuiet old.faults new.faults → ForSome (old.held input) (Completes limit filters status)
@@ -147,9 +148,8 @@ module _ (limit : ℕ) (filters : List Filter) (old mid new : World) (input outp
       absurd (let t = q.reads in let l = n.reads.later in let s = n.reads.risen in let p = r.1.reads in omega (arith, t.0, t.1, l, s, p))
   complete (Err (stop.Fault WriteFault)) k n r q = λ x e.
       absurd (let t = q.writes in let l = n.writes.later in let s = n.writes.risen in let p = r.1.writes in omega (arith, t.0, t.1, l, s, p))
-  complete (Err (stop.Fault (TextFault at kind))) k n r q = absurd k
-  complete (Err (stop.Fault (Limit kind which allowed))) k n r q = absurd k
   complete (Err stop.NoMemory) k n r q = λ x e. record { answered = λ out a. inr r.0; not_yet = λ none. inr r.0 }
+  complete (Err other) k n r q = absurd k
 
 -- ---- what is left as it was
 
@@ -202,9 +202,8 @@ stops_of limit filters (stop.Fault NotYet) k = k.0
 stops_of limit filters (stop.Fault OpenFault) k = k
 stops_of limit filters (stop.Fault ReadFault) k = k
 stops_of limit filters (stop.Fault WriteFault) k = k
-stops_of limit filters (stop.Fault (TextFault at kind)) k = absurd k
-stops_of limit filters (stop.Fault (Limit kind which allowed)) k = absurd k
 stops_of limit filters stop.NoMemory k = k
+stops_of limit filters other k = absurd k
 
 kept_files : (limit : ℕ) (filters : List Filter) (outcome : Result (Unit {0}) Stop) (old mid : World) (input output : List ℕ) → Commands limit filters old mid input output outcome → Keeps filters old mid input output
 kept_files limit filters (Ok u) old mid input output k = record {
@@ -260,13 +259,10 @@ said_by limit filters (Err stops) old mid input output k = said_stops filters in
 
 sayings_before : (outcome : Result (Unit {0}) Stop) (old mid : Faults) → CountsStop outcome old mid → mid.sayings ≡ old.sayings
 sayings_before (Ok u) old mid k = ap (λ (f : Faults). f.sayings) k
-sayings_before (Err (stop.Fault NotYet)) old mid k = ap (λ (f : Faults). f.sayings) k
 sayings_before (Err (stop.Fault OpenFault)) old mid k = k.sayings
 sayings_before (Err (stop.Fault ReadFault)) old mid k = k.sayings
 sayings_before (Err (stop.Fault WriteFault)) old mid k = k.sayings
-sayings_before (Err (stop.Fault (TextFault at kind))) old mid k = ap (λ (f : Faults). f.sayings) k
-sayings_before (Err (stop.Fault (Limit kind which allowed))) old mid k = ap (λ (f : Faults). f.sayings) k
-sayings_before (Err stop.NoMemory) old mid k = ap (λ (f : Faults). f.sayings) k
+sayings_before (Err other) old mid k = ap (λ (f : Faults). f.sayings) k
 
 says_line : (old mid new : World) (line : List ℕ) → mid.said ≡ old.said → mid.faults.sayings ≡ old.faults.sayings → Prints mid new line → SaysLine old new line
 says_line old mid new line e k p = record {
@@ -316,6 +312,7 @@ stands limit words (Err (stop.Fault WriteFault)) old mid new status h r s = othe
 stands limit words (Err (stop.Fault (TextFault at kind))) old mid new status h r s = let t = h.texts at kind refl in (TextFault at kind, t.0, reported (Err (stop.Fault (TextFault at kind))) (Err (stop.Fault (TextFault at kind))) old mid new status refl t.1 r)
 stands limit words (Err (stop.Fault (Limit kind which allowed))) old mid new status h r s = let t = h.limits kind which allowed refl in (Limit kind which allowed, t.0, reported (Err (stop.Fault (Limit kind which allowed))) (Err (stop.Fault (Limit kind which allowed))) old mid new status refl t.1 r)
 stands limit words (Err stop.NoMemory) old mid new status h r s = other {n = 14} r.0 (λ e. omega arith) (λ e. omega arith) s
+stands limit words (Err rest) old mid new status h r s = other {n = 2} r.0 (λ e. omega arith) (λ e. omega arith) s
 
 pub asked : (limit : ℕ) (words : List (List ℕ)) (outcome : Result (Unit {0}) Stop) (old mid new : World) (status : ℕ) → Obeys limit words old mid outcome → Reports mid new outcome status
     → status ≡ 0 → (request : Request) × IsRequest words request

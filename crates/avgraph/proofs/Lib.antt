@@ -16,3 +16,8 @@ mod ObeyLemmas
 mod LawLemmas
 mod WrittenLemmas
 mod SlowLemmas
+mod WordRoleLemmas
+mod WordValueLemmas
+mod WordCheckLemmas
+mod CommandPartLemmas
+mod WordLawLemmas

@@ -17,7 +17,7 @@ use Rattle.avgraph.specs.Writing.{Writing}
 use Rattle.avgraph.specs.declared.stages.Stage.TheVariants as stage
 use Rattle.avgraph.specs.declared.stages.Progress.TheVariants as progress
 use Rattle.avgraph.specs.declared.filters.Filter.{Filter}
-use Rattle.avgraph.specs.declared.fault.Fault.TheVariants.{NotYet, OpenFault, ReadFault, TextFault, Limit}
+use Rattle.avgraph.specs.declared.fault.Fault.TheVariants.{NotYet, OpenFault, ReadFault, WriteFault}
 use Rattle.avgraph.specs.declared.fault.Stop.{Stop}
 use Rattle.avgraph.specs.declared.fault.Stop.TheVariants as stop
 
@@ -66,9 +66,11 @@ pub record OpensWell (limit : ℕ) (old new : World) (name : List ℕ) (reader :
 abbrev pub OpensFile : ℕ → World → World → List ℕ → Result (Reading × Shape) Stop → Type 0
 OpensFile limit old new name (Ok both) = OpensWell limit old new name both.0 both.1
 OpensFile limit old new name (Err (stop.Fault NotYet)) = LeavesAll old new × ForSome (old.held name) (λ bytes. ¬ BeginsHeader (take limit bytes))
-OpensFile limit old new name (Err (stop.Fault (TextFault at kind))) = ⊥
-OpensFile limit old new name (Err (stop.Fault (Limit kind which allowed))) = ⊥
-OpensFile limit old new name (Err other) = LeavesAll old new
+OpensFile limit old new name (Err (stop.Fault OpenFault)) = LeavesAll old new
+OpensFile limit old new name (Err (stop.Fault ReadFault)) = LeavesAll old new
+OpensFile limit old new name (Err (stop.Fault WriteFault)) = LeavesAll old new
+OpensFile limit old new name (Err stop.NoMemory) = LeavesAll old new
+OpensFile limit old new name (Err other) = ⊥
 
 -- The output was created, and of its header this much was written.
 pub record CreatesWith (old new : World) (name : List ℕ) (id : ℕ) (text : List ℕ) : Type 0 where
@@ -83,11 +85,10 @@ CreatesPart old new name shape = LeavesAll old new ⊎ ((id : ℕ) × (count : �
 abbrev pub CreatesFile : World → World → List ℕ → Shape → Result Writing Stop → Type 0
 CreatesFile old new name shape (Ok writer) =
     CreatesWith old new name writer.id (header_text shape) × (writer ≡ record { id = writer.id; shape = shape; progress = progress.Started })
-CreatesFile old new name shape (Err (stop.Fault NotYet)) = ⊥
-CreatesFile old new name shape (Err (stop.Fault ReadFault)) = ⊥
-CreatesFile old new name shape (Err (stop.Fault (TextFault at kind))) = ⊥
-CreatesFile old new name shape (Err (stop.Fault (Limit kind which allowed))) = ⊥
-CreatesFile old new name shape (Err other) = CreatesPart old new name shape
+CreatesFile old new name shape (Err (stop.Fault OpenFault)) = CreatesPart old new name shape
+CreatesFile old new name shape (Err (stop.Fault WriteFault)) = CreatesPart old new name shape
+CreatesFile old new name shape (Err stop.NoMemory) = CreatesPart old new name shape
+CreatesFile old new name shape (Err other) = ⊥
 
 -- ---- the whole command
 
@@ -127,6 +128,8 @@ Stops filters old new input output = LeavesAll old new ⊎ Breaks filters old ne
 abbrev pub Commands : ℕ → List Filter → World → World → List ℕ → List ℕ → Result (Unit {0}) Stop → Type 0
 Commands limit filters old new input output (Ok done) = Finishes limit filters old new input output
 Commands limit filters old new input output (Err (stop.Fault NotYet)) = Stops filters old new input output × ForSome (old.held input) (IsNotYet limit filters)
-Commands limit filters old new input output (Err (stop.Fault (TextFault at kind))) = ⊥
-Commands limit filters old new input output (Err (stop.Fault (Limit kind which allowed))) = ⊥
-Commands limit filters old new input output (Err other) = Stops filters old new input output
+Commands limit filters old new input output (Err (stop.Fault OpenFault)) = Stops filters old new input output
+Commands limit filters old new input output (Err (stop.Fault ReadFault)) = Stops filters old new input output
+Commands limit filters old new input output (Err (stop.Fault WriteFault)) = Stops filters old new input output
+Commands limit filters old new input output (Err stop.NoMemory) = Stops filters old new input output
+Commands limit filters old new input output (Err other) = ⊥

@@ -7,11 +7,18 @@ use Rattle.av_text.specs.declared.fault.TextKind.{TextKind}
 use Rattle.av_text.specs.declared.fault.TextKind.TheVariants.{UnclosedQuote, LoneEscape, ExpectedName, BadLabel, Stray}
 use Rattle.avgraph.specs.declared.fault.LimitKind.{LimitKind}
 use Rattle.avgraph.specs.declared.fault.LimitKind.TheVariants.{Text, Filters}
-use Rattle.avgraph.specs.declared.fault.Fault.TheVariants.{NotYet, OpenFault, ReadFault, WriteFault, TextFault, Limit}
+use Rattle.avgraph.specs.declared.fault.Fault.TheVariants.{UnknownWord, MissingValue, BadNumber, BadEnding, SameName, NoGraph, NoOutput, NotYet, OpenFault, ReadFault, WriteFault, TextFault, Limit}
 use Rattle.avgraph.specs.declared.fault.Stop.{Stop}
 use Rattle.avgraph.specs.declared.fault.Stop.TheVariants as stop
 
 abbrev pub stop_status : Stop → ℕ
+stop_status (stop.Fault (UnknownWord word)) = 2
+stop_status (stop.Fault (MissingValue word)) = 2
+stop_status (stop.Fault (BadNumber word)) = 2
+stop_status (stop.Fault (BadEnding word)) = 2
+stop_status (stop.Fault (SameName word)) = 2
+stop_status (stop.Fault NoGraph) = 2
+stop_status (stop.Fault NoOutput) = 2
 stop_status (stop.Fault (TextFault at kind)) = 3
 stop_status (stop.Fault (Limit kind which allowed)) = 10
 stop_status (stop.Fault OpenFault) = 11
@@ -33,6 +40,13 @@ limit_word Filters = codes "filters"
 
 -- the name of a stop, and its fields
 abbrev pub stop_text : Stop → List ℕ
+stop_text (stop.Fault (UnknownWord word)) = codes "UnknownWord word=" ++ decimal word
+stop_text (stop.Fault (MissingValue word)) = codes "MissingValue word=" ++ decimal word
+stop_text (stop.Fault (BadNumber word)) = codes "BadNumber word=" ++ decimal word
+stop_text (stop.Fault (BadEnding word)) = codes "BadEnding word=" ++ decimal word
+stop_text (stop.Fault (SameName word)) = codes "SameName word=" ++ decimal word
+stop_text (stop.Fault NoGraph) = codes "NoGraph"
+stop_text (stop.Fault NoOutput) = codes "NoOutput"
 stop_text (stop.Fault NotYet) = codes "NotYet"
 stop_text (stop.Fault OpenFault) = codes "OpenFault count=1"
 stop_text (stop.Fault ReadFault) = codes "ReadFault count=1"

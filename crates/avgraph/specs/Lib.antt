@@ -15,3 +15,8 @@ pub mod Answers
 pub mod Commands
 pub mod Headline
 pub mod Pictures
+pub mod WordRoles
+pub mod WordValues
+pub mod WordChecks
+pub mod WordFaults
+pub mod CommandWords

@@ -14,7 +14,7 @@ use Rattle.avgraph.specs.Filters.{through}
 use Rattle.avgraph.specs.Reading.{Reading}
 use Rattle.avgraph.specs.Writing.{Writing}
 use Rattle.avgraph.specs.declared.filters.Filter.{Filter}
-use Rattle.avgraph.specs.declared.fault.Fault.TheVariants.{NotYet, OpenFault, ReadFault, WriteFault, TextFault, Limit}
+use Rattle.avgraph.specs.declared.fault.Fault.TheVariants.{NotYet, ReadFault, WriteFault}
 use Rattle.avgraph.specs.declared.fault.Stop.{Stop}
 use Rattle.avgraph.specs.declared.fault.Stop.TheVariants as stop
 
@@ -60,12 +60,10 @@ abbrev pub Runs : List Filter → World → World → Reading → Writing → Re
 Runs filters old new reader writer (Ok done) = MovesAll writer.shape filters reader.room old new reader.id writer.id
 Runs filters old new reader writer (Err (stop.Fault NotYet)) =
     MovesWhole writer.shape filters old new reader.id writer.id × ForSome (old.inputs.left reader.id) (IsNoFrames writer.shape reader.room)
-Runs filters old new reader writer (Err (stop.Fault OpenFault)) = ⊥
 Runs filters old new reader writer (Err (stop.Fault ReadFault)) = MovesPart writer.shape filters old new reader.id writer.id
 Runs filters old new reader writer (Err (stop.Fault WriteFault)) = MovesPart writer.shape filters old new reader.id writer.id
-Runs filters old new reader writer (Err (stop.Fault (TextFault at kind))) = ⊥
-Runs filters old new reader writer (Err (stop.Fault (Limit kind which allowed))) = ⊥
 Runs filters old new reader writer (Err stop.NoMemory) = MovesPart writer.shape filters old new reader.id writer.id
+Runs filters old new reader writer (Err other) = ⊥
 
 -- what a refused frame stops the command with
 abbrev pub stop_of_next : NextError → Stop

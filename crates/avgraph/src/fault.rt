@@ -20,6 +20,36 @@ pub enum LimitKind {
 /// What stops the command, beside want of memory. A host's fault is counted once, since it ends the run.
 #[derive(Clone, Copy, Debug, PartialEq, Eq)]
 pub enum Fault {
+    /// A word that begins with `-` and is no option, a second `-map` before one output file, or a value of `-map` that
+    /// isn't a label in brackets.
+    UnknownWord {
+        /// The word's number, counted from 0.
+        word: u64,
+    },
+    /// An option at the end without its value, or a `-map` without an output file behind it.
+    MissingValue {
+        /// The option's number, counted from 0.
+        word: u64,
+    },
+    /// A value that isn't of its option's form, or is out of range.
+    BadNumber {
+        /// The value's number, counted from 0.
+        word: u64,
+    },
+    /// A file whose name has no ending that is read, or written.
+    BadEnding {
+        /// The number of the name's word, counted from 0.
+        word: u64,
+    },
+    /// An output named as an earlier file, or an input named as an earlier output.
+    SameName {
+        /// The number of the later name's word, counted from 0.
+        word: u64,
+    },
+    /// There is no graph text.
+    NoGraph,
+    /// There is no output file.
+    NoOutput,
     /// The words or the input are outside of what the command can do today.
     NotYet,
     /// The host failed at opening an input or creating an output.
@@ -124,6 +154,33 @@ fn put_limit(line: &mut ArrayString<LINE_ROOM>, kind: LimitKind, which: u32, all
     put_number(line, " allowed=", allowed);
 }
 
+/// Appends the name of a fault and its fields.
+fn put_fault(line: &mut ArrayString<LINE_ROOM>, fault: Fault)
+    requires { array_string_len line.old ≤ 16 }
+    ensures text { line.new.bytes ≡ line.old.bytes ++ stop_text (Stop.Fault fault) }
+    ensures room { array_string_len line.new < LINE_ROOM }
+{
+    match fault {
+        Fault::UnknownWord { word } => put_number(line, "UnknownWord word=", word),
+        Fault::MissingValue { word } => put_number(line, "MissingValue word=", word),
+        Fault::BadNumber { word } => put_number(line, "BadNumber word=", word),
+        Fault::BadEnding { word } => put_number(line, "BadEnding word=", word),
+        Fault::SameName { word } => put_number(line, "SameName word=", word),
+        Fault::NoGraph => line.push_str("NoGraph"),
+        Fault::NoOutput => line.push_str("NoOutput"),
+        Fault::NotYet => line.push_str("NotYet"),
+        Fault::OpenFault => line.push_str("OpenFault count=1"),
+        Fault::ReadFault => line.push_str("ReadFault count=1"),
+        Fault::WriteFault => line.push_str("WriteFault count=1"),
+        Fault::TextFault { at, kind } => put_text_fault(line, at, kind),
+        Fault::Limit {
+            kind,
+            which,
+            allowed,
+        } => put_limit(line, kind, which, allowed),
+    }
+}
+
 /// Appends the name of a stop and its fields.
 fn put_stop(line: &mut ArrayString<LINE_ROOM>, stop: Stop)
     requires { array_string_len line.old ≤ 16 }
@@ -131,18 +188,7 @@ fn put_stop(line: &mut ArrayString<LINE_ROOM>, stop: Stop)
     ensures room { array_string_len line.new < LINE_ROOM }
 {
     match stop {
-        Stop::Fault(Fault::NotYet) => line.push_str("NotYet"),
-        Stop::Fault(Fault::OpenFault) => line.push_str("OpenFault count=1"),
-        Stop::Fault(Fault::ReadFault) => line.push_str("ReadFault count=1"),
-        Stop::Fault(Fault::WriteFault) => line.push_str("WriteFault count=1"),
-        Stop::Fault(Fault::TextFault { at, kind }) => put_text_fault(line, at, kind),
-        Stop::Fault(
-            Fault::Limit {
-                kind,
-                which,
-                allowed,
-            },
-        ) => put_limit(line, kind, which, allowed),
+        Stop::Fault(fault) => put_fault(line, fault),
         Stop::NoMemory => line.push_str("NoMemory"),
     }
 }
@@ -163,6 +209,15 @@ pub(crate) fn status(stop: Stop) -> u8
     ensures { result ≡ stop_status stop }
 {
     match stop {
+        Stop::Fault(
+            Fault::UnknownWord { .. }
+            | Fault::MissingValue { .. }
+            | Fault::BadNumber { .. }
+            | Fault::BadEnding { .. }
+            | Fault::SameName { .. }
+            | Fault::NoGraph
+            | Fault::NoOutput,
+        ) => 2,
         Stop::Fault(Fault::TextFault { .. }) => 3,
         Stop::Fault(Fault::Limit { .. }) => 10,
         Stop::Fault(Fault::OpenFault) => 11,

@@ -30,6 +30,37 @@ fn each_stop_has_its_line_and_its_status(rt: HostRuntime) {
 }
 
 #[test]
+fn a_fault_of_the_words_tells_its_word(rt: HostRuntime) {
+    for (fault, said) in [
+        (
+            Fault::UnknownWord { word: 0 },
+            "avgraph: UnknownWord word=0\n",
+        ),
+        (
+            Fault::MissingValue { word: 3 },
+            "avgraph: MissingValue word=3\n",
+        ),
+        (Fault::BadNumber { word: 1 }, "avgraph: BadNumber word=1\n"),
+        (
+            Fault::BadEnding { word: 10 },
+            "avgraph: BadEnding word=10\n",
+        ),
+        (
+            Fault::SameName {
+                word: 18446744073709551615,
+            },
+            "avgraph: SameName word=18446744073709551615\n",
+        ),
+        (Fault::NoGraph, "avgraph: NoGraph\n"),
+        (Fault::NoOutput, "avgraph: NoOutput\n"),
+    ] {
+        let stop = Stop::Fault(fault);
+        assert_eq!(rt; line(stop).as_str(), said);
+        assert_eq!(rt; status(stop), 2, "{said}");
+    }
+}
+
+#[test]
 fn a_fault_of_the_text_tells_its_byte_and_its_kind(rt: HostRuntime) {
     for (at, kind, said) in [
         (0, TextKind::Stray, "avgraph: TextFault at=0 kind=Stray\n"),

@@ -1,10 +1,12 @@
-//! The law of files: what stands for frames is read as these frames, and in no other way.
+//! The laws of files and of words: what stands for frames is read as these frames, and in no other way, and words say one
+//! command or have one fault.
 ghost use Rattle.std.specs.Prelude.{◌≡◌, ◌++◌, ℕ, List};
 ghost use Rattle.av_base.specs.declared.shapes.Shape.{Shape};
 ghost use Rattle.av_frame.specs.Frames.{FrameValue};
 ghost use Rattle.avgraph.specs.HeaderTexts.{IsHeader};
 ghost use Rattle.avgraph.specs.FrameTexts.{AreFramesFrom, frames_text};
 ghost use Rattle.avgraph.specs.Answers.{IsFile, whole_text};
+ghost use Rattle.avgraph.specs.CommandWords.{WordsSayOneThing};
 
 /// A file has one reading. Its contract is the law; the call does nothing.
 ///
@@ -19,4 +21,9 @@ pub fn files_have_one_reading()
     ensures written { (line last : List ℕ) (shape other : Shape) (frames others : List FrameValue) → IsHeader line shape → IsHeader last other
         → AreFramesFrom shape 0 frames → AreFramesFrom other 0 others → whole_text other others ≡ whole_text shape frames
         → (other ≡ shape) × (others ≡ frames) }
+{}
+
+/// Words say one command or have one fault at most, and never both. Its contract is the law; the call does nothing.
+pub fn words_say_one_thing()
+    ensures { WordsSayOneThing }
 {}

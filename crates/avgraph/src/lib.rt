@@ -2,6 +2,8 @@
 #![tactic(auto)]
 
 mod command;
+mod command_parts;
+mod command_words;
 mod fault;
 mod filters;
 pub mod flip;
@@ -15,13 +17,19 @@ mod rows;
 mod run;
 mod stages;
 mod top;
+mod word_checks;
+mod word_faults;
+mod word_roles;
+mod word_values;
 mod words;
 pub mod writer;
 
+pub use command_words::{Command, InputWord, OutputWord, read_words};
 pub use fault::{Fault, LimitKind, Stop};
 pub use filters::Filter;
 pub use stages::{Progress, Stage};
 pub use top::{Gate, OpenGate, avgraph};
+pub use word_faults::WordError;
 
 #[cfg(test)]
 mod fault_tests;
@@ -31,6 +39,8 @@ mod slow_reader;
 mod tests;
 #[cfg(test)]
 mod text_tests;
+#[cfg(test)]
+mod word_tests;
 
 /// The greatest number of bytes of an input.
 pub const LIMIT: u64 = 1 << 40;
