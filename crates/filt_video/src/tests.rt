@@ -9,7 +9,7 @@ ghost use Rattle.filt_video.specs.Transpose.{IsTurnable};
 
 use crate::{
     FormatFilter, Hflip, Negate, NoSettings, Null, Passthrough, PlaneOrder, Shuffleplanes,
-    Transpose, TransposeOptions, TransposeSettings, Turn, Vflip,
+    Transpose, TransposeOptions, Turn, Vflip,
 };
 use av_base::{
     Format, List, NoMemory, PixelFormat, Props, Ratio, Shape, Text, TimeBase, VideoProps,
@@ -324,13 +324,18 @@ fn orders_of_planes_are_checked(rt: HostRuntime) -> Result<(), NoMemory> {
 fn turned<R: Threads + Sync>(
     rt: &R,
     alloc: Global,
-    settings: TransposeSettings,
+    options: TransposeOptions,
     frame: Frame,
 ) -> Result<Vec<i32>, NoMemory>
     requires pictured { IsPictured frame.shape }
     requires turnable { IsTurnable frame.shape.format }
 {
-    let ins = alone(alloc, frame.shape())?;
+    let shape = frame.shape();
+    let ins = alone(alloc, shape)?;
+    let formats = chosen(alloc, shape)?;
+    let Ok((settings, _outs)) = Transpose::configure(alloc, &options, &ins, &formats) else {
+        return Ok(Vec::new(alloc));
+    };
     let mut filter = Transpose::new(alloc, settings, &ins)?;
     through(&mut filter, rt, alloc, frame)
 }
@@ -340,13 +345,13 @@ fn transposed<R: Threads + Sync>(
     rt: &R,
     alloc: Global,
     dir: Turn,
-    passes: bool,
+    passthrough: Passthrough,
 ) -> Result<Vec<i32>, NoMemory> {
     let shape = sized(PixelFormat::Yuv420p, 3, 2);
     turned(
         rt,
         alloc,
-        TransposeSettings { dir, passes },
+        TransposeOptions { dir, passthrough },
         counted(alloc, shape)?,
     )
 }
@@ -357,20 +362,32 @@ fn rows_and_columns_are_exchanged(rt: HostRuntime) -> Result<(), NoMemory> {
     let table = [
         (
             Turn::CclockFlip,
-            false,
+            Passthrough::Never,
             [0, 10, 1, 11, 2, 12, 40, 41, 80, 81],
         ),
-        (Turn::Clock, false, [10, 0, 11, 1, 12, 2, 40, 41, 80, 81]),
-        (Turn::Cclock, false, [2, 12, 1, 11, 0, 10, 41, 40, 81, 80]),
+        (
+            Turn::Clock,
+            Passthrough::Never,
+            [10, 0, 11, 1, 12, 2, 40, 41, 80, 81],
+        ),
+        (
+            Turn::Cclock,
+            Passthrough::Never,
+            [2, 12, 1, 11, 0, 10, 41, 40, 81, 80],
+        ),
         (
             Turn::ClockFlip,
-            false,
+            Passthrough::Never,
             [12, 2, 11, 1, 10, 0, 41, 40, 81, 80],
         ),
-        (Turn::Clock, true, [0, 1, 2, 10, 11, 12, 40, 41, 80, 81]),
+        (
+            Turn::Clock,
+            Passthrough::Landscape,
+            [0, 1, 2, 10, 11, 12, 40, 41, 80, 81],
+        ),
     ];
-    for (dir, passes, wanted) in &table {
-        let made = transposed(&rt, alloc, *dir, *passes)?;
+    for (dir, passthrough, wanted) in &table {
+        let made = transposed(&rt, alloc, *dir, *passthrough)?;
         assert_eq!(rt; made.as_slice(), wanted.as_slice());
     }
     Ok(())
@@ -386,7 +403,7 @@ fn transpose_2_turns_against_the_clock(rt: HostRuntime) -> Result<(), NoMemory> 
     let shape = sized(PixelFormat::Gray, 3, 2);
     let ins = alone(alloc, shape)?;
     let formats = chosen(alloc, shape)?;
-    let Ok((settings, outs)) = Transpose::configure(alloc, &options, &ins, &formats) else {
+    let Ok((_settings, outs)) = Transpose::configure(alloc, &options, &ins, &formats) else {
         return Err(NoMemory);
     };
     let mut upright = sized(PixelFormat::Gray, 2, 3);
@@ -395,7 +412,7 @@ fn transpose_2_turns_against_the_clock(rt: HostRuntime) -> Result<(), NoMemory> 
     }
     assert!(rt; outs.as_slice() == [upright].as_slice());
     let frame = picture(alloc, shape, &Numbered { first: 1, step: 3 })?;
-    let made = turned(&rt, alloc, settings, frame)?;
+    let made = turned(&rt, alloc, options, frame)?;
     assert_eq!(rt; made.as_slice(), [3, 6, 2, 5, 1, 4].as_slice());
     Ok(())
 }
