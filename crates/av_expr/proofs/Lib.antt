@@ -1,8 +1,8 @@
 pub mod FractionLemmas
 mod ValueLemmas
-mod EvalLemmas
+pub mod EvalLemmas
 mod RingLemmas
-mod ValueLaws
+pub mod ValueLaws
 mod VarLemmas
 mod AtomLemmas
 mod MarkLemmas
@@ -10,7 +10,7 @@ mod AnswerLemmas
 mod ReadLemmas
 mod PartLaws
 mod AtomLaws
-mod GrammarLaws
-mod TreeLemmas
+pub mod GrammarLaws
+pub mod TreeLemmas
 mod ParseLemmas
 mod TotalLaws

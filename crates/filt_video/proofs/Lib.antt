@@ -10,3 +10,10 @@ pub mod PadLemmas
 pub mod PasteLemmas
 mod SmallLemmas
 mod FormatLemmas
+pub mod OutcomeLemmas
+pub mod CropLaws
+pub mod PadLaws
+pub mod LutyuvLaws
+pub mod OrderLaws
+pub mod TurnLaws
+pub mod FormatLaws

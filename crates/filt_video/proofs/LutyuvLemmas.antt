@@ -1,9 +1,9 @@
 -- Tables of samples.
-use Rattle.std.proofs.Common.{◌≡◌, ◌<◌, ◌+◌, inl, inr, ℕ, ℤ, List, get_or, sym, ◌∙◌, subst, arith}
+use Rattle.std.proofs.Common.{◌≡◌, ◌≢◌, ◌<◌, ◌≤◌, ◌+◌, inl, inr, ⊎_elim, ℕ, ℤ, List, [], replicate, get_or, refl, sym, ◌∙◌, subst, arith}
 use Rattle.std.specs.Prelude.{pos, unsigned_abs, length}
 use Rattle.std.proofs.Math.ListN.{set}
-use Rattle.std.proofs.lemmas.Bool.{cases_eq}
-use Rattle.std.proofs.lemmas.List.{get_or-set_same, get_or-set_other}
+use Rattle.std.proofs.lemmas.Bool.{cases_eq, cases_lt}
+use Rattle.std.proofs.lemmas.List.{get_or-set_same, get_or-set_other, get_or-replicate, get_or_past}
 use Rattle.std.proofs.lemmas.Int.{ints}
 use Rattle.av_base.specs.Shapes.{planes_of, width_of, height_of}
 use Rattle.av_base.specs.declared.shapes.Shape.{Shape}
@@ -18,13 +18,35 @@ use Rattle.filt_video.specs.Lutyuv.{expression_for, at_sample, IsEntry, AreTable
 use Rattle.filt_video.specs.declared.lutyuv.LutyuvOptions.{LutyuvOptions}
 use Rattle.filt_video.proofs.CropLemmas.{within_room}
 
+-- what holds of each other member, and of what is put in place of one, holds of each
+pub set_each : {X : Type 0} (P : ℕ → X → Type 0) (xs : List X) (n : ℕ) (x d : X) → n < length xs → P n x → ((i : ℕ) → i ≢ n → P i (get_or xs i d))
+    → (i : ℕ) → P i (get_or (set xs n x) i d)
+set_each P xs n x d room here others i = elim (cases_eq i n) [
+  | inl same ↦ rw (same, get_or-set_same xs n x d room) here
+  | inr apart ↦ rw (get_or-set_other xs n i x d apart) (others i apart)
+]
+
 -- what holds of each of the first members holds of one more, where it is put
 pub set_more : {X : Type 0} (P : ℕ → X → Type 0) (xs : List X) (n : ℕ) (x d : X) → ((i : ℕ) → i < n → P i (get_or xs i d)) → n < length xs → P n x
     → (i : ℕ) → i < n + 1 → P i (get_or (set xs n x) i d)
-set_more P xs n x d before room here i less = elim (cases_eq i n) [
-  | inl same ↦ rw (same, get_or-set_same xs n x d room) here
-  | inr apart ↦ rw (get_or-set_other xs n i x d apart) (before i (omega (arith, apart)))
-]
+set_more P xs n x d before room here = set_each (λ i y. i < n + 1 → P i y) xs n x d room (λ _. here) (λ i apart below. before i (omega (arith, apart)))
+
+-- a table of zeros, and four of them
+abbrev zeros : List ℕ
+zeros = replicate 256 0
+
+abbrev all_zeros : List (List ℕ)
+all_zeros = replicate 4 zeros
+
+pub zeros_long : (p : ℕ) → p < 4 → length (get_or all_zeros p []) ≡ 256
+zeros_long p low = rw (get_or-replicate 4 p zeros [] low) refl
+
+zeros_at : (val : ℕ) → get_or zeros val 0 ≡ 0
+zeros_at val = ⊎_elim (λ (low : val < 256). get_or-replicate 256 val 0 0 low) (λ (past : 256 ≤ val). get_or_past zeros val 0 past) (cases_lt val 256)
+
+pub zeros_blank : (p val : ℕ) → get_or (get_or all_zeros p []) val 0 ≡ 0
+zeros_blank p val = ⊎_elim (λ (low : p < 4). rw (get_or-replicate 4 p zeros [] low) (zeros_at val))
+    (λ (past : 4 ≤ p). rw (get_or_past all_zeros p [] past) refl) (cases_lt p 4)
 
 pub entry_is : (tree : Tree) (plane val : ℕ) (value : Fraction) (z : ℤ) {n : ℤ} → IsWorth tree (at_sample plane val) value → IsCut value z
     → n ≡ within (pos 0) (pos 255) z → IsEntry tree plane val (unsigned_abs n)

@@ -21,7 +21,7 @@ differ a b x y h e = grind (arith, nat_tests)
 pub same : (a b x y : ℕ) → false ≡ not (eqb a b && eqb x y) → (a ≡ b) × (x ≡ y)
 same a b x y h = (grind (arith, nat_tests), grind (arith, nat_tests))
 
-no_fault : (s : Shape) (maps : List ℕ) (p : ℕ) (e : ConfigError) → IsFilled s maps p → ¬ HasOrderFault s maps p e
+pub no_fault : (s : Shape) (maps : List ℕ) (p : ℕ) (e : ConfigError) → IsFilled s maps p → ¬ HasOrderFault s maps p e
 no_fault s maps p e filled (HasOrderFault.NoPlane past) = let below = filled.0 in absurd (omega arith)
 no_fault s maps p e filled (HasOrderFault.OtherSize less apart) = apart filled.1
 

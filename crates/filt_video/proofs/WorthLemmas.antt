@@ -9,7 +9,7 @@ use Rattle.av_expr.specs.declared.fault.NoValue.{NoValue}
 use Rattle.filt_video.specs.Worth.{listed}
 
 -- each variable stands in the list for what the function gives it
-listed_is : (f : Var → Fraction) (x : Var) → value_of (listed f) x ≡ f x
+pub listed_is : (f : Var → Fraction) (x : Var) → value_of (listed f) x ≡ f x
 listed_is f InW = refl
 listed_is f InH = refl
 listed_is f OutW = refl

@@ -1,5 +1,5 @@
 -- Lists of formats (FFmpeg Filters Documentation, format; which formats there are is this project's own).
-use Rattle.std.specs.Prelude.{◌≡◌, ◌↔◌, ◌==◌, ℕ, List, [], ◌∷◌, Option, Some, None, codes, Contains}
+use Rattle.std.specs.Prelude.{◌≡◌, ◌↔◌, ◌⊎◌, ◌==◌, ℕ, List, [], ◌∷◌, Option, Some, None, codes, Contains}
 use Rattle.std.specs.List.{slice_split}
 use Rattle.av_base.specs.declared.formats.PixelFormat.{PixelFormat}
 use Rattle.av_base.specs.declared.formats.PixelFormat.TheVariants.{Gray, Yuv420p, Yuv422p, Yuv444p, Yuva420p, Yuva422p, Yuva444p}
@@ -10,7 +10,7 @@ use Rattle.av_base.specs.FormatSets.{Has}
 use Rattle.av_text.specs.declared.arguments.Arg.{Arg}
 use Rattle.av_frame.specs.declared.refusals.OptionError.{OptionError}
 use Rattle.av_frame.specs.declared.refusals.OptionError.TheVariants.{MissingOption}
-use Rattle.av_frame.specs.Options.{AreTaken, IsGiven}
+use Rattle.av_frame.specs.Options.{AreTaken, IsFirstFault, IsGiven}
 use Rattle.av_frame.specs.Words.{word_in}
 
 -- the names of pixel formats
@@ -62,3 +62,11 @@ pub record IsUnlisted (args : List Arg) (e : OptionError) : Type 0 where
   pub taken : AreTaken 1 format_names format_takes args
   pub none : IsGiven 1 format_names args 0 None
   pub is : e ≡ MissingOption
+
+-- no argument has a fault, and the set is what the one that is given says
+abbrev pub IsListed : List Arg → FormatSet → Type 0
+IsListed args set = AreTaken 1 format_names format_takes args × (text : List ℕ) × IsGiven 1 format_names args 0 (Some text) × IsFormatList text set
+
+-- what the arguments are refused for
+abbrev pub IsListFault : List Arg → OptionError → Type 0
+IsListFault args e = IsFirstFault 1 format_names format_takes args e ⊎ IsUnlisted args e

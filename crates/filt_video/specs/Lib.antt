@@ -11,3 +11,4 @@ pub mod TransposeRules
 pub mod Lutyuv
 pub mod Pad
 pub mod Formats
+pub mod Laws

@@ -1,6 +1,6 @@
 -- Samples replaced by what an expression makes of them (FFmpeg Filters Documentation, lutyuv; that `val` is the default
 -- is this project's own).
-use Rattle.std.specs.Prelude.{◌≡◌, ◌<◌, ◌+◌, ◌-◌, ◌==◌, ℕ, ℤ, pos, min, max, List, [], ◌∷◌, Option, codes, slice_index, slice_index_or, if◌then◌else◌}
+use Rattle.std.specs.Prelude.{◌≡◌, ◌<◌, ◌≤◌, ◌+◌, ◌-◌, ◌==◌, ℕ, ℤ, pos, min, max, List, [], ◌∷◌, Option, codes, length, slice_index, slice_index_or, if◌then◌else◌}
 use Rattle.av_base.specs.Shapes.{planes_of, width_of, height_of}
 use Rattle.av_base.specs.declared.shapes.Shape.{Shape}
 use Rattle.av_expr.specs.Exprs.{IsExpr}
@@ -84,9 +84,13 @@ IsTable tree plane table = (val : ℕ) → val < 256 → IsEntry tree plane val 
 abbrev pub AreTables : LutyuvOptions → ℕ → List (List ℕ) → Type 0
 AreTables o planes tables = (p : ℕ) → p < planes → IsTable (expression_for o p) p (slice_index_or tables p [])
 
--- the settings that the options give for pictures of a shape
+-- the settings that the options give for pictures of a shape: four tables of 256 samples, of which those past the
+-- format's planes hold zeros
 pub record IsLutyuv (o : LutyuvOptions) (s : Shape) (t : LutyuvSettings) : Type 0 where
   pub tables : AreTables o (planes_of s) t.tables
+  pub count : length t.tables ≡ 4
+  pub long : (p : ℕ) → p < 4 → length (slice_index_or t.tables p []) ≡ 256
+  pub blank : (p : ℕ) → planes_of s ≤ p → (val : ℕ) → slice_index (slice_index_or t.tables p []) val ≡ 0
   pub small : IsSmall s (width_of s.props) (height_of s.props)
 
 -- what stands against them: the first plane at a sample of which its expression has no value, then a limit

@@ -11,6 +11,7 @@ mod format_list;
 mod framewise;
 mod geometry;
 mod hflip;
+pub mod law;
 mod lutyuv;
 mod negate;
 mod null;

@@ -45,7 +45,7 @@ pub struct LutyuvOptions {
     pub a: Expr,
 }
 
-/// A table for each plane: what stands for each sample from 0 to 255. Those past the format's planes count for nothing.
+/// A table for each plane: what stands for each sample from 0 to 255. Those past the format's planes hold zeros.
 #[derive(Clone, Copy)]
 pub struct LutyuvSettings {
     /// The tables of Y, U, V and A.

@@ -1,9 +1,11 @@
-use Rattle.std.proofs.Common.{◌≡◌, length}
+use Rattle.std.proofs.Common.{◌≡◌, ◌<◌, ◌≤◌, ℕ, [], length, get_or}
 use Rattle.filt_video.specs.Lutyuv.{AreTables}
 use Rattle.filt_video.proofs.lutyuv.LutyuvOptions.settle.Given as goal
 
 abbrev pub invariant-loop-plane : goal.invariant-loop-plane
 invariant-loop-plane l = record {
-  long : length l.tables ≡ 4;
+  count : length l.tables ≡ 4;
   tables : AreTables l.self l.plane l.tables;
+  long : (p : ℕ) → p < 4 → length (get_or l.tables p []) ≡ 256;
+  blank : (p : ℕ) → l.plane ≤ p → (val : ℕ) → get_or (get_or l.tables p []) val 0 ≡ 0;
 }
