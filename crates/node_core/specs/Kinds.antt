@@ -1,14 +1,15 @@
 -- The filters that calls name, and the options that arguments give them (FFmpeg Filters Documentation; which filters there
 -- are, and what is refused, is this project's own).
-use Rattle.std.specs.Prelude.{◌≡◌, ◌⊎◌, ℕ, List, [], ◌∷◌, Option, Some, None, codes}
+use Rattle.std.specs.Prelude.{◌≡◌, ℕ, List, [], ◌∷◌, Some, None, codes, length}
 use Rattle.av_text.specs.declared.arguments.Arg.{Arg}
 use Rattle.graph_text.specs.declared.graph.FilterCall.{FilterCall}
 use Rattle.av_frame.specs.Words.{word_in}
-use Rattle.av_frame.specs.Options.{HasGiven, AreTaken, IsFirstFault, IsGiven}
+use Rattle.av_frame.specs.Options.{AreTaken, IsFirstFault}
 use Rattle.av_frame.specs.declared.refusals.OptionError.{OptionError}
 use Rattle.av_frame.specs.declared.refusals.OptionError.TheVariants.{UnknownFilter, NotYet}
 use Rattle.filt_video.specs.Crop.{crop_names, CropTakes, CropHas}
-use Rattle.filt_video.specs.Formats.{format_names, format_takes, IsFormatList, IsUnlisted}
+use Rattle.filt_video.specs.Formats.{IsListed, IsListFault}
+use Rattle.filt_video.specs.Laws.{Reads}
 use Rattle.filt_video.specs.Lutyuv.{lutyuv_names, sample_vars, LutyuvHas}
 use Rattle.filt_video.specs.Pad.{pad_names, PadTakes, PadHas}
 use Rattle.filt_video.specs.Shuffleplanes.{order_names, order_takes, order_has}
@@ -42,11 +43,6 @@ filter_names =
 
 -- ---- options
 
--- no argument is refused, and each option has what the arguments give it
-pub record Reads (count : ℕ) (names : List (List ℕ × ℕ)) (takes : ℕ → List ℕ → Type 0) (has : ℕ → Option (List ℕ) → Type 0) (args : List Arg) : Type 0 where
-  pub taken : AreTaken count names takes args
-  pub given : HasGiven count names has args
-
 -- there is no argument that isn't refused where there are no options
 abbrev pub ReadsNone : List Arg → Type 0
 ReadsNone args = AreTaken 0 [] (λ _ _. ⊥) args
@@ -54,13 +50,13 @@ ReadsNone args = AreTaken 0 [] (λ _ _. ⊥) args
 -- the filter of this name, with the options that the arguments give it
 abbrev pub IsKindOf : Name → List Arg → Kind → Type 0
 IsKindOf name.Crop args (kind.Crop o) = Reads 6 crop_names CropTakes (CropHas o) args
-IsKindOf name.Format args (kind.Format o) = AreTaken 1 format_names format_takes args × (text : List ℕ) × IsGiven 1 format_names args 0 (Some text) × IsFormatList text o.pix_fmts
+IsKindOf name.Format args (kind.Format o) = IsListed args o.pix_fmts
 IsKindOf name.Hflip args kind.Hflip = ReadsNone args
 IsKindOf name.Lutyuv args (kind.Lutyuv o) = Reads 4 lutyuv_names (λ _. TakesExpr sample_vars) (LutyuvHas o) args
 IsKindOf name.Negate args kind.Negate = ReadsNone args
 IsKindOf name.Null args kind.Null = ReadsNone args
 IsKindOf name.Pad args (kind.Pad o) = Reads 5 pad_names PadTakes (PadHas o) args
-IsKindOf name.Shuffleplanes args (kind.Shuffleplanes o) = Reads 4 order_names order_takes (order_has o.maps) args
+IsKindOf name.Shuffleplanes args (kind.Shuffleplanes o) = Reads 4 order_names order_takes (order_has o.maps) args × (length o.maps ≡ 4)
 IsKindOf name.Transpose args (kind.Transpose o) = Reads 2 transpose_names TransposeTakes (TransposeHas o) args
 IsKindOf name.Vflip args kind.Vflip = ReadsNone args
 IsKindOf other args kind = ⊥
@@ -71,7 +67,7 @@ RefusesNone args e = IsFirstFault 0 [] (λ _ _. ⊥) args e
 
 abbrev pub IsFaultOf : Name → List Arg → OptionError → Type 0
 IsFaultOf name.Crop args e = IsFirstFault 6 crop_names CropTakes args e
-IsFaultOf name.Format args e = IsFirstFault 1 format_names format_takes args e ⊎ IsUnlisted args e
+IsFaultOf name.Format args e = IsListFault args e
 IsFaultOf name.Hflip args e = RefusesNone args e
 IsFaultOf name.Lutyuv args e = IsFirstFault 4 lutyuv_names (λ _. TakesExpr sample_vars) args e
 IsFaultOf name.Negate args e = RefusesNone args e

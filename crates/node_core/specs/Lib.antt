@@ -1,2 +1,4 @@
 pub mod Kinds
 pub mod Shaping
+pub mod Laws
+pub mod Instances

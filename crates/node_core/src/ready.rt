@@ -1,12 +1,12 @@
 //! Filters with their settings and the shapes of what they take and give.
-ghost use Rattle.std.specs.Prelude.{◌≡◌, ◌⊎◌, [], ◌∷◌, IfOk, IfErr};
+ghost use Rattle.std.specs.Prelude.{◌≡◌, ◌↔◌, ◌⊎◌, [], ◌∷◌, IsTrue, IfOk, IfErr};
 ghost use Rattle.av_base.specs.declared.shapes.Shape.{Shape};
 ghost use Rattle.av_frame.specs.declared.refusals.ConfigError.TheVariants as config;
 ghost use Rattle.filt_video.specs.Geometry.{IsOnly};
 ghost use Rattle.node_core.specs.Shaping.{Takes, IsKept, AreSettings, IsConfigFault, IsReady};
 
 use crate::kind::Kind;
-use av_base::{Format, List, Shape};
+use av_base::{Format, List, PixelFormat, Shape};
 use av_frame::{ConfigError, NoOptions};
 use filt_video::{
     Crop, CropSettings, FormatFilter, Hflip, Lutyuv, LutyuvSettings, Negate, Null, Pad,
@@ -121,6 +121,20 @@ fn settle(
 }
 
 impl Kind {
+    /// Whether the filter takes pictures of a format.
+    pub fn takes(&self, format: Format) -> bool
+        ensures { IsTrue result ↔ Takes self.now format }
+    {
+        match self {
+            Kind::Format(options) => options.pix_fmts.has(format),
+            Kind::Transpose(_) => {
+                format != Format::Video(PixelFormat::Yuv422p)
+                    && format != Format::Video(PixelFormat::Yuva422p)
+            }
+            _ => true,
+        }
+    }
+
     /// Makes the filter ready for inputs of these shapes and outputs in these formats, one for each pad: its settings, and
     /// the shapes of its outputs. All filters that there are take one picture and give one in its format; `format` takes
     /// one in a format of its list, and `transpose` none of 4:2:2.
