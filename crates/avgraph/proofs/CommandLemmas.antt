@@ -1,7 +1,7 @@
 -- The command: an input is opened, an output created, and the loop runs.
 use Rattle.std.proofs.Common.{◌≡◌, ◌≢◌, true, false, ℕ, ◌+◌, ◌-◌, List, [], ◌++◌, take, drop, length, Some, Ok, Err, Option, Result, Bool, refl, ◌∙◌, ap, sym, subst, arith, inl, inr, length-append, append_assoc}
 use Rattle.std.specs.Option.{ForSome}
-use Rattle.std.proofs.lemmas.List.{append-nil, drop_all, take_all, append_cancel_left}
+use Rattle.std.proofs.lemmas.List.{append-nil, drop_all, append_cancel_left}
 use Rattle.std.proofs.lemmas.Option.{same_Some}
 use Rattle.std.proofs.Math.Seq.{take-append-add, take-length}
 use Rattle.av_base.specs.declared.shapes.Shape.{Shape}
@@ -15,18 +15,21 @@ use Rattle.av_frame.specs.declared.faults.HeadError.TheVariants as head
 use Rattle.av_frame.specs.declared.faults.WriteError.{WriteError}
 use Rattle.av_frame.specs.declared.faults.WriteError.TheVariants as write
 use Rattle.av_frame.specs.Frames.{FrameValue}
-use Rattle.avgraph.proofs.FilterLemmas.{through-nil}
+use Rattle.avgraph.proofs.ChainLemmas.{through-nil}
 use Rattle.avgraph.proofs.LineLemmas.{header_unique}
 use Rattle.avgraph.specs.HostRuns.{WritesPart}
-use Rattle.avgraph.specs.HeaderTexts.{BeginsHeader, header_text}
+use Rattle.avgraph.specs.HeaderTexts.{BeginsHeader, IsWritable, header_text}
 use Rattle.avgraph.specs.FrameTexts.{frames_text, AreFramesFrom}
-use Rattle.avgraph.specs.Filters.{through}
+use Rattle.avgraph.specs.Chains.{ChainValue, AreReady, through}
 use Rattle.avgraph.specs.Reading.{Reading, Heads}
 use Rattle.avgraph.specs.Writing.{Writing}
-use Rattle.avgraph.specs.Answers.{BeginsFile, IsNotYet, open_text}
+use Rattle.avgraph.specs.Answers.{Answers, BeginsFile, HasHead, NoHead, BadShape, Damaged, open_text}
+use Rattle.avgraph.proofs.ReadyLemmas.{shape_fault, chain_writable}
+use Rattle.avgraph.proofs.HeaderLemmas.{header_writable}
 use Rattle.avgraph.specs.Running.{Moves, MovesAll, MovesWhole, MovesPart, IsNoFrames, Runs, passed_text, stop_of_write}
-use Rattle.avgraph.specs.Commands.{LeavesAll, Leaves, OpensWell, OpensFile, CreatesWith, CreatesPart, CreatesFile, KeepsInputs, Finishes, Breaks, Stops, Commands, stop_of_opening, stop_of_head}
-use Rattle.avgraph.specs.declared.filters.Filter.{Filter}
+use Rattle.avgraph.specs.Commands.{LeavesAll, Leaves, OpensWell, OpensFile, CreatesWith, CreatesPart, CreatesFile, KeepsInputs, IsChainFor, StopsShape, StandsIn, PreparesWell, Prepares, Finishes, Breaks, Stops, Commands, stop_of_opening, stop_of_head}
+use Rattle.graph_text.specs.declared.graph.FilterCall.{FilterCall}
+use Rattle.node_core.specs.declared.ready.Ready.{Ready}
 use Rattle.avgraph.specs.declared.fault.Fault.TheVariants.{NotYet, OpenFault, ReadFault, WriteFault}
 use Rattle.avgraph.specs.declared.fault.Stop.{Stop}
 use Rattle.avgraph.specs.declared.fault.Stop.TheVariants as stop
@@ -113,6 +116,22 @@ module _ {limit : ℕ} {a b : World} {input : List ℕ} {reader : Reading} {shap
   left : (x : List ℕ) → a.held input ≡ Some x → b.inputs.left reader.id ≡ Some (drop (length o.line) x)
   left x e = o.reads.inputs.left x (o.opens.inputs.rest.here ∙ e)
 
+  -- the bytes within the limit begin with the header
+  has_head : (x : List ℕ) → a.held input ≡ Some x → HasHead limit x shape
+  has_head x e =
+      let tail = drop (length o.line) x in
+      let room = limit - length o.line in
+      let split : limit ≡ length o.line + room = let h = o.within in omega arith in (
+        record {
+          shape = shape;
+          line = o.line;
+          rest = take room tail;
+          header = o.header;
+          text_is = ap (take limit) (begins x e) ∙ (ap (λ (n : ℕ). take n (o.line ++ tail)) split ∙ take-append-add o.line tail room);
+        },
+        refl,
+      )
+
   -- no output was created
   created_none : {c : World} → LeavesAll b c → LeavesAll a c
   created_none l = record { held = l.held ∙ opened.held; inputs = KeepsInputs-append opened.inputs l.inputs; said = l.said ∙ opened.said; outputs = l.outputs ∙ opened.outputs }
@@ -151,16 +170,19 @@ module _ {limit : ℕ} {a b : World} {input : List ℕ} {reader : Reading} {shap
     left_created x e = ap (λ (i : Inputs). i.left reader.id) inputs_stay ∙ left x e
 
     -- a beginning of the header stands in the output
-    begun_header : (filters : List Filter) (count : ℕ) → text ≡ take count (header_text shape) → Breaks filters a c input output
-    begun_header filters count e = record {
+    begun_header : (calls : List FilterCall) (readies : List Ready) (end : Shape) (count : ℕ) → AreReady calls shape readies end → text ≡ take count (header_text end) → Breaks calls a c input output
+    begun_header calls readies end count ready e = record {
       put = text;
       leaves = leaves_created;
       begun = λ x held. record {
         shape = shape;
         frames = [];
+        readies = readies;
+        end = end;
         count = count;
         file = record { line = o.line; rest = drop (length o.line) x; header = o.header; are_frames = tt; text = begins x held };
-        put_is = e ∙ ap (take count) (sym (ap (open_text shape) (through-nil filters) ∙ append-nil (header_text shape)));
+        ready = ready;
+        put_is = e ∙ ap (take count) (sym (ap (open_text end) (through-nil readies) ∙ append-nil (header_text end)));
       };
     }
 
@@ -179,36 +201,42 @@ module _ {limit : ℕ} {a b : World} {input : List ℕ} {reader : Reading} {shap
               ∙ ap (λ (z : List ℕ). o.line ++ z) (m.inputs.begins tail (left_created x held) ∙ append_assoc (frames_text frames) rest behind);
         }
 
-    module _ (filters : List Filter) (whole : text ≡ header_text shape) where
-      stopped_whole : {d : World} → MovesWhole shape filters c d reader.id id → Breaks filters a d input output
+    module _ (calls : List FilterCall) (readies : List Ready) (end : Shape) (ready : AreReady calls shape readies end) (whole : text ≡ header_text end) where
+      stopped_whole : {d : World} → MovesWhole shape readies c d reader.id id → Breaks calls a d input output
       stopped_whole {d} m = record {
-        put = text ++ passed_text filters m.frames;
+        put = text ++ passed_text readies m.frames;
         leaves = leaves_moved m.moves;
         begun = λ x held. record {
           shape = shape;
           frames = m.frames;
-          count = length (open_text shape (through filters m.frames));
+          readies = readies;
+          end = end;
+          ready = ready;
+          count = length (open_text end (through readies m.frames));
           file = file_of m.rest m.are_frames m.moves x held;
-          put_is = ap (λ (z : List ℕ). z ++ passed_text filters m.frames) whole ∙ sym (take-length (open_text shape (through filters m.frames)));
+          put_is = ap (λ (z : List ℕ). z ++ passed_text readies m.frames) whole ∙ sym (take-length (open_text end (through readies m.frames)));
         };
       }
 
-      stopped_part : {d : World} → MovesPart shape filters c d reader.id id → Breaks filters a d input output
+      stopped_part : {d : World} → MovesPart shape readies c d reader.id id → Breaks calls a d input output
       stopped_part {d} m = record {
-        put = text ++ take m.count (passed_text filters m.frames);
+        put = text ++ take m.count (passed_text readies m.frames);
         leaves = leaves_moved m.moves;
         begun = λ x held. record {
           shape = shape;
           frames = m.frames;
-          count = length (header_text shape) + m.count;
+          readies = readies;
+          end = end;
+          ready = ready;
+          count = length (header_text end) + m.count;
           file = file_of m.rest m.are_frames m.moves x held;
-          put_is = ap (λ (z : List ℕ). z ++ take m.count (passed_text filters m.frames)) whole ∙ sym (take-append-add (header_text shape) (passed_text filters m.frames) m.count);
+          put_is = ap (λ (z : List ℕ). z ++ take m.count (passed_text readies m.frames)) whole ∙ sym (take-append-add (header_text end) (passed_text readies m.frames) m.count);
         };
       }
 
       -- the input isn't a file
-      no_file : ForSome (c.inputs.left reader.id) (IsNoFrames shape (limit - length o.line)) → ForSome (a.held input) (IsNotYet limit filters)
-      no_file none = λ x held out answers.
+      no_answer : ForSome (c.inputs.left reader.id) (IsNoFrames shape (limit - length o.line)) → (x : List ℕ) → a.held input ≡ Some x → (out : List ℕ) → ¬ Answers limit calls x out
+      no_answer none x held out answers =
           let tail = drop (length o.line) x in
           let file = answers.file in
           let same = header_unique tail (frames_text answers.frames) o.header file.header (sym (begins x held) ∙ file.text) in
@@ -217,16 +245,22 @@ module _ {limit : ℕ} {a b : World} {input : List ℕ} {reader : Reading} {shap
           none tail (left_created x held) answers.frames (subst (λ (s : Shape). AreFramesFrom s 0 answers.frames) (sym same.1) file.are_frames) behind
           (let within = answers.within in let n = ap length (begins x held) ∙ length-append o.line tail in let h = o.within in omega arith)
 
-      finishes : {d : World} → MovesAll shape filters (limit - length o.line) c d reader.id id → Finishes limit filters a d input output
+      no_file : ForSome (c.inputs.left reader.id) (IsNoFrames shape (limit - length o.line)) → StandsIn limit calls a input NotYet
+      no_file none = record { of_file = inr (inr refl); stands = λ x held. Damaged shape readies end (has_head x held) ready (no_answer none x held) refl }
+
+      finishes : {d : World} → MovesAll shape readies (limit - length o.line) c d reader.id id → Finishes limit calls a d input output
       finishes {d} m = record {
         bytes = o.line ++ frames_text m.frames;
-        out = text ++ passed_text filters m.frames;
+        out = text ++ passed_text readies m.frames;
         answers = record {
           shape = shape;
           frames = m.frames;
+          readies = readies;
+          end = end;
+          ready = ready;
           file = record { line = o.line; header = o.header; are_frames = m.are_frames; text = refl };
           within = let n = length-append o.line (frames_text m.frames) in let h = o.within in let w = m.within in omega arith;
-          out_is = ap (λ (z : List ℕ). z ++ passed_text filters m.frames) whole;
+          out_is = ap (λ (z : List ℕ). z ++ passed_text readies m.frames) whole;
         };
         leaves = leaves_moved m.moves;
         held = λ x held. begins x held ∙ ap (λ (z : List ℕ). o.line ++ z) (m.all (drop (length o.line) x) (left_created x held));
@@ -242,48 +276,77 @@ module _ {limit : ℕ} {a b : World} {input : List ℕ} {reader : Reading} {shap
             };
       }
 
--- the input was not opened well
-pub open_refused : (limit : ℕ) (filters : List Filter) (a b : World) (input output : List ℕ) (stops : Stop) → OpensFile limit a b input (Err stops) → Commands limit filters a b input output (Err stops)
-open_refused limit filters a b input output (stop.Fault NotYet) h = (
-  inl h.0,
-  λ x held out answers.
-      h.1 x held (record {
-        shape = answers.shape;
-        line = answers.file.line;
-        rest = frames_text answers.frames;
-        header = answers.file.header;
-        text_is = take_all limit x answers.within ∙ answers.file.text;
-      }),
-)
-open_refused limit filters a b input output (stop.Fault OpenFault) h = inl h
-open_refused limit filters a b input output (stop.Fault ReadFault) h = inl h
-open_refused limit filters a b input output (stop.Fault WriteFault) h = inl h
-open_refused limit filters a b input output stop.NoMemory h = inl h
-open_refused limit filters a b input output other h = absurd h
+-- ---- making ready
 
-create_part : (filters : List Filter) {limit : ℕ} {a b c : World} {input output : List ℕ} {reader : Reading} {shape : Shape} → OpensWell limit a b input reader shape → CreatesPart b c output shape → Stops filters a c input output
-create_part filters o (inl l) = inl (created_none o l)
-create_part filters o (inr k) = inr (begun_header o k.2 filters k.1 refl)
+-- the input was not opened well
+pub open_refused : (limit : ℕ) (calls : List FilterCall) (a b : World) (input : List ℕ) (stops : Stop) → OpensFile limit a b input (Err stops) → Prepares limit calls a b input (Err stops)
+open_refused limit calls a b input (stop.Fault NotYet) h = (h.0, record { of_file = inr (inr refl); stands = λ x held. NoHead (h.1 x held) refl })
+open_refused limit calls a b input (stop.Fault OpenFault) h = h
+open_refused limit calls a b input (stop.Fault ReadFault) h = h
+open_refused limit calls a b input (stop.Fault WriteFault) h = h
+open_refused limit calls a b input stop.NoMemory h = h
+open_refused limit calls a b input other h = absurd h
+
+-- the filters could not be made ready
+pub shape_refused : (limit : ℕ) (calls : List FilterCall) (a b : World) (input : List ℕ) (reader : Reading) (shape : Shape) (stops : Stop) → OpensWell limit a b input reader shape → StopsShape calls shape stops
+    → Prepares limit calls a b input (Err stops)
+shape_refused limit calls a b input reader shape (stop.Fault OpenFault) o h = opened o
+shape_refused limit calls a b input reader shape (stop.Fault ReadFault) o h = opened o
+shape_refused limit calls a b input reader shape (stop.Fault WriteFault) o h = opened o
+shape_refused limit calls a b input reader shape (stop.Fault fault) o h = (opened o, record { of_file = shape_fault h; stands = λ x held. BadShape shape (has_head o x held) h })
+shape_refused limit calls a b input reader shape stop.NoMemory o h = opened o
+
+-- all is ready
+pub prepared : (limit : ℕ) (calls : List FilterCall) (a b : World) (input : List ℕ) (reader : Reading) (shape : Shape) (chain : ChainValue) → OpensWell limit a b input reader shape → IsChainFor calls shape chain
+    → PreparesWell limit calls a b input reader chain
+prepared limit calls a b input reader shape chain o is = record {
+  opens = subst (λ (s : Shape). OpensWell limit a b input reader s) (sym is.shape_is) o;
+  is_chain = record { shape_is = refl; ready = subst (λ (s : Shape). AreReady calls s chain.readies chain.end) (sym is.shape_is) is.ready; next = is.next; fresh = is.fresh };
+}
+
+-- the last filter gives pictures that a file can hold
+pub prepared_writable : {limit : ℕ} {calls : List FilterCall} {a b : World} {input : List ℕ} {reader : Reading} {chain : ChainValue} → PreparesWell limit calls a b input reader chain → IsWritable chain.end
+prepared_writable {limit} {calls} {a} {b} {input} {reader} {chain} p =
+    let is = p.is_chain in
+    let opens = p.opens in
+    chain_writable calls chain.shape chain.end chain.readies is.ready (header_writable opens.header)
+
+-- ---- the command
+
+-- the input was not opened well, or the filters not made ready
+pub prepare_refused : (limit : ℕ) (calls : List FilterCall) (a b : World) (input output : List ℕ) (stops : Stop) → Prepares limit calls a b input (Err stops) → Commands limit calls a b input output (Err stops)
+prepare_refused limit calls a b input output (stop.Fault OpenFault) h = inl h
+prepare_refused limit calls a b input output (stop.Fault ReadFault) h = inl h
+prepare_refused limit calls a b input output (stop.Fault WriteFault) h = inl h
+prepare_refused limit calls a b input output (stop.Fault fault) h = (inl h.0, h.1)
+prepare_refused limit calls a b input output stop.NoMemory h = inl h
+
+create_part : (calls : List FilterCall) {limit : ℕ} {a b c : World} {input output : List ℕ} {reader : Reading} {chain : ChainValue} → PreparesWell limit calls a b input reader chain → CreatesPart b c output chain.end → Stops calls a c input output
+create_part calls p (inl l) = inl (created_none p.opens l)
+create_part calls {chain = chain} p (inr k) = inr (begun_header p.opens k.2 calls chain.readies chain.end k.1 p.is_chain.ready refl)
 
 -- the output was not created well
-pub create_refused : (limit : ℕ) (filters : List Filter) (a b c : World) (input output : List ℕ) (reader : Reading) (shape : Shape) (stops : Stop) → OpensWell limit a b input reader shape → CreatesFile b c output shape (Err stops)
-    → Commands limit filters a c input output (Err stops)
-create_refused limit filters a b c input output reader shape (stop.Fault OpenFault) o h = create_part filters o h
-create_refused limit filters a b c input output reader shape (stop.Fault WriteFault) o h = create_part filters o h
-create_refused limit filters a b c input output reader shape stop.NoMemory o h = create_part filters o h
-create_refused limit filters a b c input output reader shape other o h = absurd h
+pub create_refused : (limit : ℕ) (calls : List FilterCall) (a b c : World) (input output : List ℕ) (reader : Reading) (chain : ChainValue) (stops : Stop) → PreparesWell limit calls a b input reader chain
+    → CreatesFile b c output chain.end (Err stops) → Commands limit calls a c input output (Err stops)
+create_refused limit calls a b c input output reader chain (stop.Fault OpenFault) p h = create_part calls p h
+create_refused limit calls a b c input output reader chain (stop.Fault WriteFault) p h = create_part calls p h
+create_refused limit calls a b c input output reader chain stop.NoMemory p h = create_part calls p h
+create_refused limit calls a b c input output reader chain other p h = absurd h
 
 -- the loop ran
-pub commands : (limit : ℕ) (filters : List Filter) (a b c d : World) (input output : List ℕ) (reader : Reading) (shape : Shape) (writer : Writing) (result : Result (Unit {0}) Stop) → OpensWell limit a b input reader shape
-    → CreatesWith b c output writer.id (header_text shape) → writer.shape ≡ shape → Runs filters c d reader writer result → Commands limit filters a d input output result
-commands limit filters a b c d input output reader shape writer (Ok done) o k e r =
-    finishes o k filters refl (subst (λ (n : ℕ). MovesAll shape filters n c d reader.id writer.id) (ap (λ (v : Reading). v.room) o.reader_is) (subst (λ (s : Shape). MovesAll s filters reader.room c d reader.id writer.id) e r))
-commands limit filters a b c d input output reader shape writer (Err (stop.Fault NotYet)) o k e r = (
-  inr (stopped_whole o k filters refl (subst (λ (s : Shape). MovesWhole s filters c d reader.id writer.id) e r.0)),
-  no_file o k filters refl (subst (λ (n : ℕ). ForSome (c.inputs.left reader.id) (IsNoFrames shape n)) (ap (λ (v : Reading). v.room) o.reader_is)
-      (subst (λ (s : Shape). ForSome (c.inputs.left reader.id) (IsNoFrames s reader.room)) e r.1)),
-)
-commands limit filters a b c d input output reader shape writer (Err (stop.Fault ReadFault)) o k e r = inr (stopped_part o k filters refl (subst (λ (s : Shape). MovesPart s filters c d reader.id writer.id) e r))
-commands limit filters a b c d input output reader shape writer (Err (stop.Fault WriteFault)) o k e r = inr (stopped_part o k filters refl (subst (λ (s : Shape). MovesPart s filters c d reader.id writer.id) e r))
-commands limit filters a b c d input output reader shape writer (Err stop.NoMemory) o k e r = inr (stopped_part o k filters refl (subst (λ (s : Shape). MovesPart s filters c d reader.id writer.id) e r))
-commands limit filters a b c d input output reader shape writer (Err other) o k e r = absurd r
+module _ (limit : ℕ) (calls : List FilterCall) (a b c d : World) (input output : List ℕ) (reader : Reading) (chain : ChainValue) (writer : Writing) (p : PreparesWell limit calls a b input reader chain)
+    (k : CreatesWith b c output writer.id (header_text chain.end)) where
+  room_is : reader.room ≡ limit - length p.opens.line
+  room_is = ap (λ (v : Reading). v.room) p.opens.reader_is
+
+  pub commands : (result : Result (Unit {0}) Stop) → Runs chain.shape chain.readies c d reader writer result → Commands limit calls a d input output result
+  commands (Ok done) r =
+      finishes p.opens k calls chain.readies chain.end p.is_chain.ready refl (subst (λ (n : ℕ). MovesAll chain.shape chain.readies n c d reader.id writer.id) room_is r)
+  commands (Err (stop.Fault NotYet)) r = (
+    inr (stopped_whole p.opens k calls chain.readies chain.end p.is_chain.ready refl r.0),
+    no_file p.opens k calls chain.readies chain.end p.is_chain.ready refl (subst (λ (n : ℕ). ForSome (c.inputs.left reader.id) (IsNoFrames chain.shape n)) room_is r.1),
+  )
+  commands (Err (stop.Fault ReadFault)) r = inr (stopped_part p.opens k calls chain.readies chain.end p.is_chain.ready refl r)
+  commands (Err (stop.Fault WriteFault)) r = inr (stopped_part p.opens k calls chain.readies chain.end p.is_chain.ready refl r)
+  commands (Err stop.NoMemory) r = inr (stopped_part p.opens k calls chain.readies chain.end p.is_chain.ready refl r)
+  commands (Err other) r = absurd r

@@ -13,7 +13,7 @@ use Rattle.av_base.specs.declared.numbers.Ratio.{Ratio}
 use Rattle.av_base.specs.Numbers.{IsLowest}
 use Rattle.av_base.specs.Reduced.{IsReduced}
 use Rattle.avgraph.specs.Reading.{IsReadable}
-use Rattle.avgraph.specs.HeaderTexts.{HasNumbers, AreHeaderNumbers, IsHeader, plain_shape}
+use Rattle.avgraph.specs.HeaderTexts.{HasNumbers, AreHeaderNumbers, IsHeader, plain_shape, IsWritable}
 use Rattle.avgraph.proofs.NumeralLemmas.{number_unique}
 
 -- ---- prefixes
@@ -159,6 +159,18 @@ header_readable {line} {shape} h =
       video = tt;
       limits = record { width = r.width_fits; height = r.height_fits; bytes = r.bytes_fit };
     })
+
+-- A file can hold pictures of the shape of a header line.
+pub header_writable : {line : List ℕ} {shape : Shape} → IsHeader line shape → IsWritable shape
+header_writable {line} {shape} h =
+    let readable = header_readable h in
+    let numbers = h.numbers in
+    record {
+      lawful = readable.lawful;
+      video = readable.video;
+      limits = readable.limits;
+      header = rw h.shape_is (omega arith, some_factor h.rate.num h.is_rate.divisor h.num h.is_rate.num_is numbers.num_some);
+    }
 
 -- ---- one reading
 

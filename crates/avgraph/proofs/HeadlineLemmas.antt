@@ -7,18 +7,18 @@ use Rattle.av_host.specs.World.{World, Inputs, Outputs, Faults}
 use Rattle.av_host.specs.Calls.{Says, Rises, RaisesSayings}
 use Rattle.av_host.specs.declared.host.Failed.{Failed}
 use Rattle.avgraph.specs.HostRuns.{SaysPart}
-use Rattle.avgraph.specs.HeaderTexts.{BeginsHeader}
 use Rattle.avgraph.specs.FrameTexts.{frames_text}
-use Rattle.avgraph.specs.Answers.{Answers, IsNotYet}
-use Rattle.avgraph.specs.declared.filters.Filter.{Filter}
+use Rattle.avgraph.specs.Answers.{Answers, IsReadyFor}
+use Rattle.avgraph.proofs.FileLemmas.{answer_or_fault, one_file_fault}
+use Rattle.graph_text.specs.declared.graph.FilterCall.{FilterCall}
 use Rattle.avgraph.specs.Requests.{Request, IsRequest, IsRefused, IsRefusedAtOnce}
 use Rattle.avgraph.specs.declared.fault.Fault.{Fault}
-use Rattle.avgraph.specs.declared.fault.Fault.TheVariants.{NotYet, OpenFault, ReadFault, WriteFault, TextFault, Limit}
+use Rattle.avgraph.specs.declared.fault.Fault.TheVariants.{OpenFault, ReadFault, WriteFault}
 use Rattle.avgraph.specs.declared.fault.Stop.{Stop}
 use Rattle.avgraph.specs.declared.fault.Stop.TheVariants as stop
 use Rattle.avgraph.specs.Faults.{CountsStop, stop_line, stop_status}
 use Rattle.avgraph.specs.Commands.{Commands, KeepsInputs, LeavesAll, Finishes, IsBegun, Stops}
-use Rattle.avgraph.specs.Headline.{Prints, Reports, Obeys, Refuses, HasCause, IsQuiet, Done, Completes, Keeps, SaysLine, SaysStatus}
+use Rattle.avgraph.specs.Headline.{Prints, Reports, Obeys, Refuses, HasCause, IsQuiet, Done, Completes, Keeps, Names, SaysLine, SaysStatus}
 
 -- ---- what is printed
 
@@ -65,9 +65,6 @@ cause (Ok u) old mid new status k r =
     let e = ap (λ (w : World). w.faults) r.1 ∙ k in
     let s : status ≡ 0 = r.0 in
     no_rise status (ap (λ (f : Faults). f.openings) e) (ap (λ (f : Faults). f.reads) e) (ap (λ (f : Faults). f.writes) e) (λ h. omega arith) (λ h. omega arith) (λ h. omega arith)
-cause (Err (stop.Fault NotYet)) old mid new status k r = let s : status ≡ 15 = r.0 in still old status k r.1 (λ h. omega arith) (λ h. omega arith) (λ h. omega arith)
-cause (Err (stop.Fault (TextFault at kind))) old mid new status k r = let s : status ≡ 3 = r.0 in still old status k r.1 (λ h. omega arith) (λ h. omega arith) (λ h. omega arith)
-cause (Err (stop.Fault (Limit kind which allowed))) old mid new status k r = let s : status ≡ 10 = r.0 in still old status k r.1 (λ h. omega arith) (λ h. omega arith) (λ h. omega arith)
 cause (Err stop.NoMemory) old mid new status k r = let s : status ≡ 14 = r.0 in still old status k r.1 (λ h. omega arith) (λ h. omega arith) (λ h. omega arith)
 cause (Err (stop.Fault OpenFault)) old mid new status k r =
     let s : status ≡ 11 = r.0 in let p = r.1.reads in let q = r.1.writes in let x = k.reads in let y = k.writes in
@@ -99,7 +96,7 @@ cause (Err (stop.Fault WriteFault)) old mid new status k r =
       reading_forces = λ h. absurd (omega arith);
       writing_forces = λ h. s;
     }
-cause (Err other) old mid new status k r = let s : status ≡ 2 = r.0 in still old status k r.1 (λ h. omega arith) (λ h. omega arith) (λ h. omega arith)
+cause (Err (stop.Fault other)) old mid new status k r = let s : status ≡ stop_status (stop.Fault other) = r.0 in still old status k r.1 (λ h. omega arith) (λ h. omega arith) (λ h. omega arith)
 
 pub has_cause : (limit : ℕ) (words : List (List ℕ)) (outcome : Result (Unit {0}) Stop) (old mid new : World) (status : ℕ) → Obeys limit words old mid outcome → Reports mid new outcome status
     → HasCause old.faults new.faults status
@@ -107,68 +104,84 @@ has_cause limit words outcome old mid new status h r = cause outcome old mid new
 
 -- ---- the answer
 
+says_line : (old mid new : World) (line : List ℕ) → mid.said ≡ old.said → mid.faults.sayings ≡ old.faults.sayings → Prints mid new line → SaysLine old new line
+says_line old mid new line e k p = record {
+  part = λ x h. let q = p.part in (q.0, q.1.said x (e ∙ h));
+  whole = λ small same x h. (p.whole (omega arith) (omega arith)).said x (e ∙ h);
+}
+
 -- a refusal isn't status 0
 some_status : (stops : Stop) → stop_status stops ≢ 0
-some_status (stop.Fault NotYet) e = omega arith
 some_status (stop.Fault OpenFault) e = omega arith
-some_status (stop.Fault ReadFault) e = omega arith
-some_status (stop.Fault WriteFault) e = omega arith
-some_status (stop.Fault (TextFault at kind)) e = omega arith
-some_status (stop.Fault (Limit kind which allowed)) e = omega arith
+some_status (stop.Fault fault) e = omega arith
 some_status stop.NoMemory e = omega arith
-some_status other e = omega arith
 
-module _ (limit : ℕ) (filters : List Filter) (old mid new : World) (input output : List ℕ) (status : ℕ) where
-  pub done : (outcome : Result (Unit {0}) Stop) → Commands limit filters old mid input output outcome → Reports mid new outcome status → status ≡ 0 → ForSome (old.held input) (Done limit filters old new output)
+-- a status of 7, 8 or 15 is none of these
+other_file : {s : ℕ} {A : Type 0} (n : ℕ) → s ≡ n → n ≢ 7 → n ≢ 8 → n ≢ 15 → (s ≡ 7) ⊎ ((s ≡ 8) ⊎ (s ≡ 15)) → A
+other_file n e a b c (inl d) = absurd (a (sym e ∙ d))
+other_file n e a b c (inr (inl d)) = absurd (b (sym e ∙ d))
+other_file n e a b c (inr (inr d)) = absurd (c (sym e ∙ d))
+
+module _ (limit : ℕ) (calls : List FilterCall) (old mid new : World) (input output : List ℕ) (status : ℕ) where
+  pub done : (outcome : Result (Unit {0}) Stop) → Commands limit calls old mid input output outcome → Reports mid new outcome status → status ≡ 0 → ForSome (old.held input) (Done limit calls old new output)
   done (Ok u) k r s = λ x e.
-      let f = subst (λ (w : World). Finishes limit filters old w input output) (sym r.1) k in
+      let f = subst (λ (w : World). Finishes limit calls old w input output) (sym r.1) k in
       let same = f.held x e in
       record { out = f.out; answers = rw same f.answers; content = f.leaves.content; to_end = f.to_end x e }
   done (Err stops) k r s = absurd (some_status stops (sym r.0 ∙ s))
 
-  pub not_yet : (outcome : Result (Unit {0}) Stop) → Commands limit filters old mid input output outcome → Reports mid new outcome status → status ≡ 15 → ForSome (old.held input) (IsNotYet limit filters)
-  not_yet (Ok u) k r s = let h : status ≡ 0 = r.0 in absurd (omega arith)
-  not_yet (Err (stop.Fault NotYet)) k r s = k.1
-  not_yet (Err (stop.Fault OpenFault)) k r s = let h : status ≡ 11 = r.0 in absurd (omega arith)
-  not_yet (Err (stop.Fault ReadFault)) k r s = let h : status ≡ 12 = r.0 in absurd (omega arith)
-  not_yet (Err (stop.Fault WriteFault)) k r s = let h : status ≡ 13 = r.0 in absurd (omega arith)
-  not_yet (Err stop.NoMemory) k r s = let h : status ≡ 14 = r.0 in absurd (omega arith)
-  not_yet (Err other) k r s = absurd k
+  pub names : (outcome : Result (Unit {0}) Stop) → Commands limit calls old mid input output outcome → mid.said ≡ old.said → CountsStop outcome old.faults mid.faults → Reports mid new outcome status
+      → (status ≡ 7) ⊎ ((status ≡ 8) ⊎ (status ≡ 15)) → ForSome (old.held input) (Names limit calls old new status)
+  names (Ok u) k said n r s = other_file 0 r.0 (λ e. omega arith) (λ e. omega arith) (λ e. omega arith) s
+  names (Err (stop.Fault OpenFault)) k said n r s = other_file 11 r.0 (λ e. omega arith) (λ e. omega arith) (λ e. omega arith) s
+  names (Err (stop.Fault ReadFault)) k said n r s = other_file 12 r.0 (λ e. omega arith) (λ e. omega arith) (λ e. omega arith) s
+  names (Err (stop.Fault WriteFault)) k said n r s = other_file 13 r.0 (λ e. omega arith) (λ e. omega arith) (λ e. omega arith) s
+  names (Err stop.NoMemory) k said n r s = other_file 14 r.0 (λ e. omega arith) (λ e. omega arith) (λ e. omega arith) s
+  names (Err (stop.Fault fault)) k said n r s = λ x e. record {
+    fault = fault;
+    stands = k.1.stands x e;
+    status_is = r.0;
+    said = says_line old mid new (stop_line (stop.Fault fault)) said (ap (λ (f : Faults). f.sayings) n) r.1;
+  }
 
-  pub complete : (outcome : Result (Unit {0}) Stop) → Commands limit filters old mid input output outcome → CountsStop outcome old.faults mid.faults → Reports mid new outcome status
-      → IsQuiet old.faults new.faults → ForSome (old.held input) (Completes limit filters status)
+  pub complete : (outcome : Result (Unit {0}) Stop) → Commands limit calls old mid input output outcome → CountsStop outcome old.faults mid.faults → Reports mid new outcome status
+      → IsQuiet old.faults new.faults → ForSome (old.held input) (Completes limit calls status)
   complete (Ok u) k n r q = λ x e. record {
     answered = λ out a. inl r.0;
-    not_yet = λ none. absurd (none k.out (rw (k.held x e) k.answers));
+    refused = λ fault stands. absurd (answer_or_fault {out = k.out} (rw (k.held x e) k.answers) stands);
   }
-  complete (Err (stop.Fault NotYet)) k n r q = λ x e. record { answered = λ out a. absurd (k.1 x e out a); not_yet = λ none. inl r.0 }
   complete (Err (stop.Fault OpenFault)) k n r q = λ x e.
       absurd (let t = q.openings in let l = n.openings.later in let s = n.openings.risen in let p = r.1.openings in omega (arith, t.0, t.1, l, s, p))
   complete (Err (stop.Fault ReadFault)) k n r q = λ x e.
       absurd (let t = q.reads in let l = n.reads.later in let s = n.reads.risen in let p = r.1.reads in omega (arith, t.0, t.1, l, s, p))
   complete (Err (stop.Fault WriteFault)) k n r q = λ x e.
       absurd (let t = q.writes in let l = n.writes.later in let s = n.writes.risen in let p = r.1.writes in omega (arith, t.0, t.1, l, s, p))
-  complete (Err stop.NoMemory) k n r q = λ x e. record { answered = λ out a. inr r.0; not_yet = λ none. inr r.0 }
-  complete (Err other) k n r q = absurd k
+  complete (Err stop.NoMemory) k n r q = λ x e. record { answered = λ out a. inr r.0; refused = λ fault stands. inr r.0 }
+  complete (Err (stop.Fault fault)) k n r q = λ x e. record {
+    answered = λ out a. absurd (answer_or_fault a (k.1.stands x e));
+    refused = λ other stands. inl (r.0 ∙ ap (λ (f : Fault). stop_status (stop.Fault f)) (one_file_fault (k.1.stands x e) stands));
+  }
 
 -- ---- what is left as it was
 
--- what begins as a file begins with its header
-header_of : (filters : List Filter) (bytes put : List ℕ) → IsBegun filters bytes put → BeginsHeader bytes
-header_of filters bytes put b = record {
-  shape = b.shape;
-  line = b.file.line;
-  rest = frames_text b.frames ++ b.file.rest;
-  header = b.file.header;
-  text_is = b.file.text;
-}
+-- where an answer was begun, the filters can be made ready for the file
+ready_of : (calls : List FilterCall) (bytes put : List ℕ) → IsBegun calls bytes put → IsReadyFor calls bytes
+ready_of calls bytes put b = (
+  record { shape = b.shape; line = b.file.line; rest = frames_text b.frames ++ b.file.rest; header = b.file.header; text_is = b.file.text },
+  b.readies,
+  b.end,
+  b.ready,
+)
 
 -- a whole answer is a beginning of itself
-begun_whole : (limit : ℕ) (filters : List Filter) (bytes out : List ℕ) → Answers limit filters bytes out → IsBegun filters bytes out
-begun_whole limit filters bytes out a = record {
+begun_whole : (limit : ℕ) (calls : List FilterCall) (bytes out : List ℕ) → Answers limit calls bytes out → IsBegun calls bytes out
+begun_whole limit calls bytes out a = record {
   shape = a.shape;
   frames = a.frames;
+  readies = a.readies;
+  end = a.end;
   count = length out;
+  ready = a.ready;
   file = record {
     line = a.file.line;
     rest = [];
@@ -179,17 +192,17 @@ begun_whole limit filters bytes out a = record {
   put_is = sym (take-length out) ∙ ap (take (length out)) a.out_is;
 }
 
-kept_all : (filters : List Filter) {old mid : World} (input output : List ℕ) → LeavesAll old mid → Keeps filters old mid input output
-kept_all filters input output l = record {
+kept_all : (calls : List FilterCall) {old mid : World} (input output : List ℕ) → LeavesAll old mid → Keeps calls old mid input output
+kept_all calls input output l = record {
   held = l.held;
   inputs = l.inputs;
   other_outputs = λ o ne. ap (λ (s : Outputs). s.content o) l.outputs;
   content = inl (ap (λ (s : Outputs). s.content output) l.outputs);
 }
 
-kept_stops : (filters : List Filter) {old mid : World} (input output : List ℕ) → Stops filters old mid input output → Keeps filters old mid input output
-kept_stops filters input output (inl l) = kept_all filters input output l
-kept_stops filters input output (inr b) = record {
+kept_stops : (calls : List FilterCall) {old mid : World} (input output : List ℕ) → Stops calls old mid input output → Keeps calls old mid input output
+kept_stops calls input output (inl l) = kept_all calls input output l
+kept_stops calls input output (inr b) = record {
   held = b.leaves.held;
   inputs = b.leaves.inputs;
   other_outputs = b.leaves.other_outputs;
@@ -197,33 +210,32 @@ kept_stops filters input output (inr b) = record {
 }
 
 -- a refusal leaves no output, or a beginning of the answer
-stops_of : (limit : ℕ) (filters : List Filter) {old mid : World} {input output : List ℕ} (stops : Stop) → Commands limit filters old mid input output (Err stops) → Stops filters old mid input output
-stops_of limit filters (stop.Fault NotYet) k = k.0
-stops_of limit filters (stop.Fault OpenFault) k = k
-stops_of limit filters (stop.Fault ReadFault) k = k
-stops_of limit filters (stop.Fault WriteFault) k = k
-stops_of limit filters stop.NoMemory k = k
-stops_of limit filters other k = absurd k
+stops_of : (limit : ℕ) (calls : List FilterCall) {old mid : World} {input output : List ℕ} (stops : Stop) → Commands limit calls old mid input output (Err stops) → Stops calls old mid input output
+stops_of limit calls (stop.Fault OpenFault) k = k
+stops_of limit calls (stop.Fault ReadFault) k = k
+stops_of limit calls (stop.Fault WriteFault) k = k
+stops_of limit calls (stop.Fault fault) k = k.0
+stops_of limit calls stop.NoMemory k = k
 
-kept_files : (limit : ℕ) (filters : List Filter) (outcome : Result (Unit {0}) Stop) (old mid : World) (input output : List ℕ) → Commands limit filters old mid input output outcome → Keeps filters old mid input output
-kept_files limit filters (Ok u) old mid input output k = record {
+kept_files : (limit : ℕ) (calls : List FilterCall) (outcome : Result (Unit {0}) Stop) (old mid : World) (input output : List ℕ) → Commands limit calls old mid input output outcome → Keeps calls old mid input output
+kept_files limit calls (Ok u) old mid input output k = record {
   held = k.leaves.held;
   inputs = k.leaves.inputs;
   other_outputs = k.leaves.other_outputs;
-  content = inr (λ y made x e. (k.out, begun_whole limit filters x k.out (rw (k.held x e) k.answers), k.leaves.content y made));
+  content = inr (λ y made x e. (k.out, begun_whole limit calls x k.out (rw (k.held x e) k.answers), k.leaves.content y made));
 }
-kept_files limit filters (Err stops) old mid input output k = kept_stops filters input output (stops_of limit filters stops k)
+kept_files limit calls (Err stops) old mid input output k = kept_stops calls input output (stops_of limit calls stops k)
 
 -- printing leaves the files
 printed : (outcome : Result (Unit {0}) Stop) (mid new : World) (status : ℕ) → Reports mid new outcome status → (new.held ≡ mid.held) × (new.inputs ≡ mid.inputs) × (new.outputs ≡ mid.outputs)
 printed (Ok u) mid new status r = (ap (λ (w : World). w.held) r.1, ap (λ (w : World). w.inputs) r.1, ap (λ (w : World). w.outputs) r.1)
 printed (Err f) mid new status r = let s = r.1.part.1 in (s.held, s.inputs, s.outputs)
 
-pub kept : (limit : ℕ) (filters : List Filter) (outcome : Result (Unit {0}) Stop) (old mid new : World) (input output : List ℕ) (status : ℕ) → Commands limit filters old mid input output outcome → Reports mid new outcome status
-    → Keeps filters old new input output
-kept limit filters outcome old mid new input output status k r =
+pub kept : (limit : ℕ) (calls : List FilterCall) (outcome : Result (Unit {0}) Stop) (old mid new : World) (input output : List ℕ) (status : ℕ) → Commands limit calls old mid input output outcome → Reports mid new outcome status
+    → Keeps calls old new input output
+kept limit calls outcome old mid new input output status k r =
     let p = printed outcome mid new status r in
-    let f = kept_files limit filters outcome old mid input output k in
+    let f = kept_files limit calls outcome old mid input output k in
     record {
       held = p.0 ∙ f.held;
       inputs = subst (λ (i : Inputs). KeepsInputs old.inputs i) (sym p.1) f.inputs;
@@ -231,31 +243,31 @@ kept limit filters outcome old mid new input output status k r =
       content = rw p.2 f.content;
     }
 
--- where the input begins with no header, no output was created
-before_header : (limit : ℕ) (filters : List Filter) (outcome : Result (Unit {0}) Stop) (old mid : World) (input output : List ℕ) → Commands limit filters old mid input output outcome
-    → ForSome (old.held input) (λ bytes. ¬ BeginsHeader bytes → mid.outputs ≡ old.outputs)
-before_header limit filters (Ok u) old mid input output k = λ x e none.
-    absurd (none (header_of filters x k.out (begun_whole limit filters x k.out (rw (k.held x e) k.answers))))
-before_header limit filters (Err stops) old mid input output k = λ x e none. by_stops x e none (stops_of limit filters stops k)
+-- where the filters can't be made ready for the input, no output was created
+before_ready : (limit : ℕ) (calls : List FilterCall) (outcome : Result (Unit {0}) Stop) (old mid : World) (input output : List ℕ) → Commands limit calls old mid input output outcome
+    → ForSome (old.held input) (λ bytes. ¬ IsReadyFor calls bytes → mid.outputs ≡ old.outputs)
+before_ready limit calls (Ok u) old mid input output k = λ x e none.
+    absurd (none (ready_of calls x k.out (begun_whole limit calls x k.out (rw (k.held x e) k.answers))))
+before_ready limit calls (Err stops) old mid input output k = λ x e none. by_stops x e none (stops_of limit calls stops k)
   where
-    by_stops : (x : List ℕ) → old.held input ≡ Some x → ¬ BeginsHeader x → Stops filters old mid input output → mid.outputs ≡ old.outputs
+    by_stops : (x : List ℕ) → old.held input ≡ Some x → ¬ IsReadyFor calls x → Stops calls old mid input output → mid.outputs ≡ old.outputs
     by_stops x e none (inl l) = l.outputs
-    by_stops x e none (inr b) = absurd (none (header_of filters x b.put (b.begun x e)))
+    by_stops x e none (inr b) = absurd (none (ready_of calls x b.put (b.begun x e)))
 
-pub header_first : (limit : ℕ) (filters : List Filter) (outcome : Result (Unit {0}) Stop) (old mid new : World) (input output : List ℕ) (status : ℕ) → Commands limit filters old mid input output outcome → Reports mid new outcome status
-    → ForSome (old.held input) (λ bytes. ¬ BeginsHeader bytes → new.outputs ≡ old.outputs)
-header_first limit filters outcome old mid new input output status k r = λ x e none.
-    (printed outcome mid new status r).2 ∙ before_header limit filters outcome old mid input output k x e none
+pub ready_first : (limit : ℕ) (calls : List FilterCall) (outcome : Result (Unit {0}) Stop) (old mid new : World) (input output : List ℕ) (status : ℕ) → Commands limit calls old mid input output outcome → Reports mid new outcome status
+    → ForSome (old.held input) (λ bytes. ¬ IsReadyFor calls bytes → new.outputs ≡ old.outputs)
+ready_first limit calls outcome old mid new input output status k r = λ x e none.
+    (printed outcome mid new status r).2 ∙ before_ready limit calls outcome old mid input output k x e none
 
 -- ---- what was said
 
-said_stops : (filters : List Filter) {old mid : World} (input output : List ℕ) → Stops filters old mid input output → mid.said ≡ old.said
-said_stops filters input output (inl l) = l.said
-said_stops filters input output (inr b) = b.leaves.said
+said_stops : (calls : List FilterCall) {old mid : World} (input output : List ℕ) → Stops calls old mid input output → mid.said ≡ old.said
+said_stops calls input output (inl l) = l.said
+said_stops calls input output (inr b) = b.leaves.said
 
-pub said_by : (limit : ℕ) (filters : List Filter) (outcome : Result (Unit {0}) Stop) (old mid : World) (input output : List ℕ) → Commands limit filters old mid input output outcome → mid.said ≡ old.said
-said_by limit filters (Ok u) old mid input output k = k.leaves.said
-said_by limit filters (Err stops) old mid input output k = said_stops filters input output (stops_of limit filters stops k)
+pub said_by : (limit : ℕ) (calls : List FilterCall) (outcome : Result (Unit {0}) Stop) (old mid : World) (input output : List ℕ) → Commands limit calls old mid input output outcome → mid.said ≡ old.said
+said_by limit calls (Ok u) old mid input output k = k.leaves.said
+said_by limit calls (Err stops) old mid input output k = said_stops calls input output (stops_of limit calls stops k)
 
 sayings_before : (outcome : Result (Unit {0}) Stop) (old mid : Faults) → CountsStop outcome old mid → mid.sayings ≡ old.sayings
 sayings_before (Ok u) old mid k = ap (λ (f : Faults). f.sayings) k
@@ -263,12 +275,6 @@ sayings_before (Err (stop.Fault OpenFault)) old mid k = k.sayings
 sayings_before (Err (stop.Fault ReadFault)) old mid k = k.sayings
 sayings_before (Err (stop.Fault WriteFault)) old mid k = k.sayings
 sayings_before (Err other) old mid k = ap (λ (f : Faults). f.sayings) k
-
-says_line : (old mid new : World) (line : List ℕ) → mid.said ≡ old.said → mid.faults.sayings ≡ old.faults.sayings → Prints mid new line → SaysLine old new line
-says_line old mid new line e k p = record {
-  part = λ x h. let q = p.part in (q.0, q.1.said x (e ∙ h));
-  whole = λ small same x h. (p.whole (omega arith) (omega arith)).said x (e ∙ h);
-}
 
 pub silent : (limit : ℕ) (words : List (List ℕ)) (outcome : Result (Unit {0}) Stop) (old mid new : World) (status : ℕ) → Obeys limit words old mid outcome → Reports mid new outcome status
     → status ≡ 0 → new.said ≡ old.said
@@ -298,21 +304,21 @@ pub at_once : (limit : ℕ) (words : List (List ℕ)) (outcome : Result (Unit {0
     → (fault : Fault) → IsRefusedAtOnce words fault → Reports old new (Err (stop.Fault fault)) status
 at_once limit words outcome old mid new status h r fault is = let t = h.at_once fault is in reported outcome (Err (stop.Fault fault)) old mid new status t.0 t.1 r
 
-other : {status n : ℕ} {A : Type 0} → status ≡ n → n ≢ 3 → n ≢ 10 → (status ≡ 3) ⊎ (status ≡ 10) → A
-other e three ten (inl s) = absurd (three (sym e ∙ s))
-other e three ten (inr s) = absurd (ten (sym e ∙ s))
+abbrev IsTextStatus : ℕ → Type 0
+IsTextStatus s = (s ≡ 3) ⊎ ((s ≡ 4) ⊎ (s ≡ 10))
+
+text_status : (n : ℕ) → IsTextStatus n → n ≢ 3 → n ≢ 4 → n ≢ 10 → ⊥
+text_status n (inl e) a b c = a e
+text_status n (inr (inl e)) a b c = b e
+text_status n (inr (inr e)) a b c = c e
 
 pub stands : (limit : ℕ) (words : List (List ℕ)) (outcome : Result (Unit {0}) Stop) (old mid new : World) (status : ℕ) → Obeys limit words old mid outcome → Reports mid new outcome status
-    → (status ≡ 3) ⊎ (status ≡ 10) → (fault : Fault) × IsRefused words fault × Reports old new (Err (stop.Fault fault)) status
-stands limit words (Ok u) old mid new status h r s = other {n = 0} r.0 (λ e. omega arith) (λ e. omega arith) s
-stands limit words (Err (stop.Fault NotYet)) old mid new status h r s = other {n = 15} r.0 (λ e. omega arith) (λ e. omega arith) s
-stands limit words (Err (stop.Fault OpenFault)) old mid new status h r s = other {n = 11} r.0 (λ e. omega arith) (λ e. omega arith) s
-stands limit words (Err (stop.Fault ReadFault)) old mid new status h r s = other {n = 12} r.0 (λ e. omega arith) (λ e. omega arith) s
-stands limit words (Err (stop.Fault WriteFault)) old mid new status h r s = other {n = 13} r.0 (λ e. omega arith) (λ e. omega arith) s
-stands limit words (Err (stop.Fault (TextFault at kind))) old mid new status h r s = let t = h.texts at kind refl in (TextFault at kind, t.0, reported (Err (stop.Fault (TextFault at kind))) (Err (stop.Fault (TextFault at kind))) old mid new status refl t.1 r)
-stands limit words (Err (stop.Fault (Limit kind which allowed))) old mid new status h r s = let t = h.limits kind which allowed refl in (Limit kind which allowed, t.0, reported (Err (stop.Fault (Limit kind which allowed))) (Err (stop.Fault (Limit kind which allowed))) old mid new status refl t.1 r)
-stands limit words (Err stop.NoMemory) old mid new status h r s = other {n = 14} r.0 (λ e. omega arith) (λ e. omega arith) s
-stands limit words (Err rest) old mid new status h r s = other {n = 2} r.0 (λ e. omega arith) (λ e. omega arith) s
+    → (status ≡ 3) ⊎ ((status ≡ 4) ⊎ (status ≡ 10)) → (fault : Fault) × IsRefused words fault × Reports old new (Err (stop.Fault fault)) status
+stands limit words (Ok u) old mid new status h r s = absurd (text_status 0 (subst IsTextStatus r.0 s) (λ e. omega arith) (λ e. omega arith) (λ e. omega arith))
+stands limit words (Err stop.NoMemory) old mid new status h r s = absurd (text_status 14 (subst IsTextStatus r.0 s) (λ e. omega arith) (λ e. omega arith) (λ e. omega arith))
+stands limit words (Err (stop.Fault fault)) old mid new status h r s =
+    let t = h.stands fault refl (subst IsTextStatus r.0 s) in
+    (fault, t.0, reported (Err (stop.Fault fault)) (Err (stop.Fault fault)) old mid new status refl t.1 r)
 
 pub asked : (limit : ℕ) (words : List (List ℕ)) (outcome : Result (Unit {0}) Stop) (old mid new : World) (status : ℕ) → Obeys limit words old mid outcome → Reports mid new outcome status
     → status ≡ 0 → (request : Request) × IsRequest words request

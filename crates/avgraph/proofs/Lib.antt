@@ -1,6 +1,6 @@
 mod Pieces
-mod FlipLemmas
-mod FilterLemmas
+mod FieldLemmas
+mod ChainLemmas
 mod RowLemmas
 mod FrameLemmas
 mod ReadLemmas
@@ -8,9 +8,12 @@ mod WriteLemmas
 mod NumeralLemmas
 mod HeaderLemmas
 mod LineLemmas
+mod FileLemmas
+mod ReadyLemmas
 mod RunLemmas
 mod CommandLemmas
 mod HeadlineLemmas
+mod ArgCountLemmas
 mod RequestLemmas
 mod ObeyLemmas
 mod LawLemmas

@@ -1,47 +1,69 @@
 -- Words ask for one thing at most, or are refused for one fault.
-use Rattle.std.proofs.Common.{◌≡◌, ◌<◌, ◌≤◌, ◌+◌, ◌⊎◌, ℕ, List, [], ◌∷◌, Option, Some, None, length, get_or, take, ◌++◌, zero, suc, refl, sym, ◌∙◌, ap, subst, arith, inl, inr}
-use Rattle.std.specs.List.{AllZip}
+use Rattle.std.proofs.Common.{◌≡◌, ◌<◌, ◌≤◌, ◌+◌, ◌⊎◌, ℕ, List, [], ◌∷◌, Option, Some, None, Result, Ok, Err, IfOk, Vec, Global, length, get_or, take, ◌++◌, zero, suc, sym, ◌∙◌, ap, subst, arith, inl, inr}
+use Rattle.std.specs.List.{AllZip, AllByRecursion}
 use Rattle.std.proofs.lemmas.List.{take_more}
-use Rattle.avgraph.specs.declared.fault.Stop.{Stop}
-use Rattle.avgraph.specs.declared.fault.Stop.TheVariants as stop
+use Rattle.av_frame.specs.declared.refusals.OptionError.{OptionError}
+use Rattle.av_frame.specs.declared.refusals.OptionError.TheVariants as option
 use Rattle.av_text.specs.declared.fault.TextKind.{TextKind}
 use Rattle.graph_text.specs.Graphs.{IsGraph, IsGraphFault}
 use Rattle.graph_text.specs.declared.graph.FilterCall.{FilterCall}
 use Rattle.graph_text.proofs.GraphLemmas.{one_graph, one_graph_fault, graph_or_fault}
-use Rattle.avgraph.specs.declared.filters.Filter.{Filter}
-use Rattle.avgraph.specs.declared.filters.Filter.TheVariants.{Hflip, Null}
+use Rattle.node_core.specs.declared.kind.Kind.{Kind}
+use Rattle.node_core.specs.Kinds.{IsKind, IsKindFault}
+use Rattle.node_core.proofs.KindLaws.{one_meaning}
 use Rattle.avgraph.specs.declared.fault.Fault.{Fault}
-use Rattle.avgraph.specs.declared.fault.Fault.TheVariants.{NotYet, TextFault}
+use Rattle.avgraph.specs.declared.fault.Fault.TheVariants.{TextFault}
+use Rattle.avgraph.specs.declared.fault.Stop.{Stop}
+use Rattle.avgraph.specs.declared.fault.Stop.TheVariants as stop
+use Rattle.avgraph.specs.Faults.{option_stop}
 use Rattle.avgraph.specs.Words.{words_of}
-use Rattle.avgraph.specs.Requests.{name_of, Calls, SaysFilters, RefusesText, TooLong, NoReading, TooMany, OtherCalls, StopsText}
+use Rattle.avgraph.specs.Requests.{IsBare, SaysFilters, IsRefusedCall, RefusesCalls, TooMany, BadCall, NoChain, RefusesText, TooLong, NoReading, BadCalls, StopsCalls, StopsText}
+
+-- ---- calls
+
+-- calls that all mean filters aren't refused
+kinds_or_refused : (n : ℕ) (calls : List FilterCall) (kinds : List Kind) (stops : Stop) → AllZip IsKind calls kinds → IsRefusedCall n calls stops → ⊥
+kinds_or_refused n [] kinds stops zip h = h
+kinds_or_refused n (c ∷ cs) [] stops zip h = zip
+kinds_or_refused n (c ∷ cs) (k ∷ ks) stops zip (inl h) = one_meaning.not_both c k h.0 zip.0 h.1
+kinds_or_refused n (c ∷ cs) (k ∷ ks) stops zip (inr h) = kinds_or_refused (n + 1) cs ks stops zip.1 h.2
+
+one_refused_call : (n : ℕ) (calls : List FilterCall) (s t : Stop) → IsRefusedCall n calls s → IsRefusedCall n calls t → s ≡ t
+one_refused_call n [] s t p q = absurd p
+one_refused_call n (c ∷ cs) s t (inl p) (inl q) = p.2 ∙ (ap (option_stop n) (one_meaning.one_fault c p.0 q.0 p.1 q.1) ∙ sym q.2)
+one_refused_call n (c ∷ cs) s t (inl p) (inr q) = absurd (one_meaning.not_both c q.0 p.0 q.1 p.1)
+one_refused_call n (c ∷ cs) s t (inr p) (inl q) = absurd (one_meaning.not_both c p.0 q.0 p.1 q.1)
+one_refused_call n (c ∷ cs) s t (inr p) (inr q) = one_refused_call (n + 1) cs s t p.2 q.2
+
+fault_is : {f g : Fault} → stop.Fault f ≡ stop.Fault g → f ≡ g
+fault_is e = cc
+
+one_refusal_of_calls : {calls : List FilterCall} {f g : Fault} → RefusesCalls calls f → RefusesCalls calls g → f ≡ g
+one_refusal_of_calls (TooMany many e) (TooMany more d) = e ∙ sym d
+one_refusal_of_calls (TooMany many e) (BadCall few h) = absurd (omega arith)
+one_refusal_of_calls (TooMany many e) (NoChain few kinds zip none d) = absurd (omega arith)
+one_refusal_of_calls (BadCall few h) (TooMany more d) = absurd (omega arith)
+one_refusal_of_calls {calls} {f} {g} (BadCall few h) (BadCall less k) = fault_is (one_refused_call 0 calls (stop.Fault f) (stop.Fault g) h k)
+one_refusal_of_calls {calls} {f} {g} (BadCall few h) (NoChain less kinds zip none d) = absurd (kinds_or_refused 0 calls kinds (stop.Fault f) zip h)
+one_refusal_of_calls (NoChain few kinds zip none e) (TooMany more d) = absurd (omega arith)
+one_refusal_of_calls {calls} {f} {g} (NoChain few kinds zip none e) (BadCall less k) = absurd (kinds_or_refused 0 calls kinds (stop.Fault g) zip k)
+one_refusal_of_calls (NoChain few kinds zip none e) (NoChain less others also nor d) = e ∙ sym d
 
 -- ---- texts
 
-same_filter : (f g : Filter) → name_of f ≡ name_of g → f ≡ g
-same_filter Hflip Hflip e = refl
-same_filter Hflip Null e = absurd (let n = ap length e in omega arith)
-same_filter Null Hflip e = absurd (let n = ap length e in omega arith)
-same_filter Null Null e = refl
+pub one_chain : {text : List ℕ} {a b : List FilterCall} → SaysFilters text a → SaysFilters text b → a ≡ b
+one_chain {text} {a} {b} p q = one_graph text a b p.graph q.graph
 
-same_filters : (calls : List FilterCall) (a b : List Filter) → AllZip Calls calls a → AllZip Calls calls b → a ≡ b
-same_filters [] [] [] p q = refl
-same_filters [] (x ∷ xs) b p q = absurd p
-same_filters [] [] (y ∷ ys) p q = absurd q
-same_filters (c ∷ cs) [] b p q = absurd p
-same_filters (c ∷ cs) (x ∷ xs) [] p q = absurd q
-same_filters (c ∷ cs) (x ∷ xs) (y ∷ ys) p q =
-    let first = same_filter x y (sym p.0.name ∙ q.0.name) in
-    let others = same_filters cs xs ys p.1 q.1 in
-    cc
+says_or_refuses_calls : {text : List ℕ} {calls : List FilterCall} {fault : Fault} → SaysFilters text calls → RefusesCalls calls fault → ⊥
+says_or_refuses_calls p (TooMany many e) = let few = p.few in omega arith
+says_or_refuses_calls {text} {calls} {fault} p (BadCall few h) = kinds_or_refused 0 calls p.kinds (stop.Fault fault) p.are_kinds h
+says_or_refuses_calls p (NoChain few kinds zip none e) = none p.chain
 
-pub one_chain : {text : List ℕ} {a b : List Filter} → SaysFilters text a → SaysFilters text b → a ≡ b
-one_chain {text} {a} {b} p q = same_filters q.calls a b (rw (one_graph text p.calls q.calls p.graph q.graph) at p.chain) q.chain
-
-pub says_or_refuses : {text : List ℕ} {filters : List Filter} {fault : Fault} → SaysFilters text filters → RefusesText text fault → ⊥
+pub says_or_refuses : {text : List ℕ} {calls : List FilterCall} {fault : Fault} → SaysFilters text calls → RefusesText text fault → ⊥
 says_or_refuses p (TooLong long e) = let s = p.short in omega arith
-says_or_refuses {text} p (NoReading short at kind bad f place e) = graph_or_fault text bad p.calls kind p.graph f
-says_or_refuses {text} p (TooMany short calls g many e) = let few = p.few in omega (arith, ap length (one_graph text p.calls calls p.graph g))
-says_or_refuses {text} {filters} p (OtherCalls short calls g few none e) = none filters (rw (one_graph text p.calls calls p.graph g) at p.chain)
+says_or_refuses {text} {calls} p (NoReading short at kind bad f place e) = graph_or_fault text bad calls kind p.graph f
+says_or_refuses {text} {calls} {fault} p (BadCalls short others g h) =
+    says_or_refuses_calls p (subst (λ (cs : List FilterCall). RefusesCalls cs fault) (one_graph text others calls g p.graph) h)
 
 -- two faults of one reading
 same_fault : {text r s : List ℕ} {k l : TextKind} (a b : ℕ) → IsGraphFault text k r → IsGraphFault text l s → a + length r ≡ length text → b + length s ≡ length text → TextFault a k ≡ TextFault b l
@@ -54,20 +76,14 @@ same_fault {text} {r} {s} {k} {l} a b p q at place =
 pub one_refusal : {text : List ℕ} {f g : Fault} → RefusesText text f → RefusesText text g → f ≡ g
 one_refusal (TooLong a e) (TooLong b d) = e ∙ sym d
 one_refusal (TooLong a e) (NoReading b at kind bad q place d) = absurd (omega arith)
-one_refusal (TooLong a e) (TooMany b calls q many d) = absurd (omega arith)
-one_refusal (TooLong a e) (OtherCalls b calls q few none d) = absurd (omega arith)
+one_refusal (TooLong a e) (BadCalls b calls q h) = absurd (omega arith)
 one_refusal (NoReading a at kind bad p here e) (TooLong b d) = absurd (omega arith)
 one_refusal (NoReading a at kind bad p here e) (NoReading b to other worse q place d) = e ∙ (same_fault at to p q here place ∙ sym d)
-one_refusal {text} (NoReading a at kind bad p here e) (TooMany b calls q many d) = absurd (graph_or_fault text bad calls kind q p)
-one_refusal {text} (NoReading a at kind bad p here e) (OtherCalls b calls q few none d) = absurd (graph_or_fault text bad calls kind q p)
-one_refusal (TooMany a calls p many e) (TooLong b d) = absurd (omega arith)
-one_refusal {text} (TooMany a calls p many e) (NoReading b at kind bad q place d) = absurd (graph_or_fault text bad calls kind p q)
-one_refusal (TooMany a calls p many e) (TooMany b others q more d) = e ∙ sym d
-one_refusal {text} (TooMany a calls p many e) (OtherCalls b others q few none d) = absurd (omega (arith, ap length (one_graph text calls others p q)))
-one_refusal (OtherCalls a calls p few none e) (TooLong b d) = absurd (omega arith)
-one_refusal {text} (OtherCalls a calls p few none e) (NoReading b at kind bad q place d) = absurd (graph_or_fault text bad calls kind p q)
-one_refusal {text} (OtherCalls a calls p few none e) (TooMany b others q many d) = absurd (omega (arith, ap length (one_graph text calls others p q)))
-one_refusal (OtherCalls a calls p few none e) (OtherCalls b others q less other d) = e ∙ sym d
+one_refusal {text} (NoReading a at kind bad p here e) (BadCalls b calls q h) = absurd (graph_or_fault text bad calls kind q p)
+one_refusal (BadCalls a calls p h) (TooLong b d) = absurd (omega arith)
+one_refusal {text} (BadCalls a calls p h) (NoReading b at kind bad q place d) = absurd (graph_or_fault text bad calls kind p q)
+one_refusal {text} {f} {g} (BadCalls a calls p h) (BadCalls b others q k) =
+    one_refusal_of_calls h (subst (λ (cs : List FilterCall). RefusesCalls cs g) (one_graph text others calls q p) k)
 
 -- ---- words
 
@@ -80,34 +96,52 @@ same_words words {a} {b} {c} {d} {e} {f} p q =
 pub no_words : (words : List (List ℕ)) {names : List ℕ × List ℕ × List ℕ} → words_of words ≡ None → words_of words ≡ Some names → ⊥
 no_words words {names} p q = let h : None ≡ Some names = sym p ∙ q in cc
 
--- ---- calls and filters
-
-zip_push : (calls : List FilterCall) (filters : List Filter) (call : FilterCall) (filter : Filter) → AllZip Calls calls filters → Calls call filter → AllZip Calls (calls ++ call ∷ []) (filters ++ filter ∷ [])
-zip_push [] [] call filter zip h = (h, tt)
-zip_push [] (f ∷ fs) call filter zip h = absurd zip
-zip_push (c ∷ cs) [] call filter zip h = absurd zip
-zip_push (c ∷ cs) (f ∷ fs) call filter zip h = (zip.0, zip_push cs fs call filter zip.1 h)
+-- ---- reading calls
 
 -- one call more
-pub zip_more : (calls : List FilterCall) (filters : List Filter) (i : ℕ) (call : FilterCall) (filter : Filter) → i < length calls → call ≡ get_or calls i call → AllZip Calls (take i calls) filters → Calls call filter
-    → AllZip Calls (take (i + 1) calls) (filters ++ filter ∷ [])
-zip_more calls filters i call filter within is zip h =
+kinds_push : (calls : List FilterCall) (kinds : List Kind) (call : FilterCall) (kind : Kind) → AllZip IsKind calls kinds → IsKind call kind → AllZip IsKind (calls ++ call ∷ []) (kinds ++ kind ∷ [])
+kinds_push [] [] call kind zip h = (h, tt)
+kinds_push [] (f ∷ fs) call kind zip h = absurd zip
+kinds_push (c ∷ cs) [] call kind zip h = absurd zip
+kinds_push (c ∷ cs) (f ∷ fs) call kind zip h = (zip.0, kinds_push cs fs call kind zip.1 h)
+
+pub kinds_more : (calls : List FilterCall) (kinds : List Kind) (i : ℕ) (call : FilterCall) (kind : Kind) → i < length calls → call ≡ get_or calls i call → AllZip IsKind (take i calls) kinds → IsKind call kind
+    → AllZip IsKind (take (i + 1) calls) (kinds ++ kind ∷ [])
+kinds_more calls kinds i call kind within is zip h =
     let e : take (i + 1) calls ≡ take i calls ++ call ∷ [] = take_more calls i call within ∙ ap (λ (c : FilterCall). take i calls ++ c ∷ []) (sym is) in
-    rw e (zip_push (take i calls) filters call filter zip h)
+    rw e (kinds_push (take i calls) kinds call kind zip h)
 
-zip_at : (calls : List FilterCall) (filters : List Filter) (i : ℕ) (c : FilterCall) (f : Filter) → i < length calls → AllZip Calls calls filters → Calls (get_or calls i c) (get_or filters i f)
-zip_at [] filters i c f within zip = absurd (omega arith)
-zip_at (x ∷ xs) [] i c f within zip = absurd zip
-zip_at (x ∷ xs) (y ∷ ys) zero c f within zip = zip.0
-zip_at (x ∷ xs) (y ∷ ys) (suc i) c f within zip = zip_at xs ys i c f (omega arith) zip.1
+-- a call is refused, and none before it
+refused_from : (n : ℕ) (calls : List FilterCall) (kinds : List Kind) (i : ℕ) (call : FilterCall) (e : OptionError) → i < length calls → call ≡ get_or calls i call → AllZip IsKind (take i calls) kinds → IsKindFault call e
+    → IsRefusedCall n calls (option_stop (n + i) e)
+refused_from n [] kinds i call e within is zip h = absurd (omega arith)
+refused_from n (c ∷ cs) kinds zero call e within is zip h =
+    inl (e, subst (λ (x : FilterCall). IsKindFault x e) is h, ap (λ (m : ℕ). option_stop m e) (let k : n + 0 ≡ n = omega arith in k))
+refused_from n (c ∷ cs) [] (suc i) call e within is zip h = absurd zip
+refused_from n (c ∷ cs) (k ∷ ks) (suc i) call e within is zip h =
+    inr (k, zip.0, subst (λ (m : ℕ). IsRefusedCall (n + 1) cs (option_stop m e)) (let s : (n + 1) + i ≡ n + suc i = omega arith in s) (refused_from (n + 1) cs ks i call e (omega arith) is zip.1 h))
 
--- a call that names no filter
-pub no_chain : (calls : List FilterCall) (i : ℕ) (call : FilterCall) → i < length calls → call ≡ get_or calls i call → ((filter : Filter) → Calls call filter → ⊥) → (filters : List Filter) → AllZip Calls calls filters → ⊥
-no_chain calls i call within is none filters zip =
-    none (get_or filters i Null) (subst (λ (c : FilterCall). Calls c (get_or filters i Null)) (sym is) (zip_at calls filters i call Null within zip))
+pub call_refused : (calls : List FilterCall) (kinds : List Kind) (i : ℕ) (call : FilterCall) (e : OptionError) → i < length calls → call ≡ get_or calls i call → AllZip IsKind (take i calls) kinds → (e ≡ option.NoMemory) ⊎ IsKindFault call e
+    → (option_stop i e ≡ stop.NoMemory) ⊎ IsRefusedCall 0 calls (option_stop i e)
+call_refused calls kinds i call e within is zip (inl h) = inl (ap (option_stop i) h)
+call_refused calls kinds i call e within is zip (inr h) =
+    inr (subst (λ (m : ℕ). IsRefusedCall 0 calls (option_stop m e)) (let z : 0 + i ≡ i = omega arith in z) (refused_from 0 calls kinds i call e within is zip h))
+
+-- what stops the reading of kinds stops that of calls
+pub kinds_stop : (calls : List FilterCall) (stops : Stop) → length calls ≤ 256 → (stops ≡ stop.NoMemory) ⊎ IsRefusedCall 0 calls stops → StopsCalls calls stops
+kinds_stop calls (stop.Fault f) few (inl e) = absurd cc
+kinds_stop calls (stop.Fault f) few (inr h) = BadCall few h
+kinds_stop calls stop.NoMemory few h = tt
 
 -- what stops the calls stops the text
-pub calls_stop : (text : List ℕ) (calls : List FilterCall) (stops : Stop) → length text ≤ 65_536 → IsGraph text calls → length calls ≤ 256
-    → (stops ≡ stop.NoMemory) ⊎ ((stops ≡ stop.Fault NotYet) × ((filters : List Filter) → ¬ AllZip Calls calls filters)) → StopsText text stops
-calls_stop text calls stops short graph few (inl e) = rw e short
-calls_stop text calls stops short graph few (inr h) = rw h.0 (OtherCalls short calls graph few h.1 refl)
+pub calls_stop : (text : List ℕ) (calls : List FilterCall) (stops : Stop) → length text ≤ 65_536 → IsGraph text calls → StopsCalls calls stops → StopsText text stops
+calls_stop text calls (stop.Fault f) short graph h = BadCalls short calls graph h
+calls_stop text calls stop.NoMemory short graph h = short
+
+-- the kinds of a text's calls say what it asks for
+pub says_kinds : (text : List ℕ) (calls items : List FilterCall) (result : Result (Vec Kind Global) Stop) → length text ≤ 65_536 → IsGraph text calls → length calls ≤ 256 → items ≡ calls
+    → IfOk result (λ kinds. AllZip IsKind items kinds.items × AllByRecursion IsBare items) → IfOk result (λ kinds. (cs : List FilterCall) × SaysFilters text cs × AllZip IsKind cs kinds.items)
+says_kinds text calls items (Ok kinds) short graph few same h =
+    let both : AllZip IsKind calls kinds.items × AllByRecursion IsBare calls = subst (λ (cs : List FilterCall). AllZip IsKind cs kinds.items × AllByRecursion IsBare cs) same h in
+    (calls, record { short = short; graph = graph; few = few; kinds = kinds.items; are_kinds = both.0; chain = both.1 }, both.0)
+says_kinds text calls items (Err stops) short graph few same h = tt

@@ -11,7 +11,7 @@ use Rattle.av_host.specs.Calls.{Reads, Changes, appended}
 use Rattle.av_host.proofs.Runs.{Takes-nil, Takes-append, Alters-nil, Alters-append, Reads-nil}
 use Rattle.av_frame.specs.Frames.{FrameValue, ArePlanes}
 use Rattle.avgraph.specs.FrameTexts.{frame_text, frames_text, frame_size, IsFrameAt, AreFramesFrom, BeginsFrame, CanBeginFrame, IsBadFrame, IsTruncated, IsPastLimit}
-use Rattle.avgraph.specs.Filters.{through, passed}
+use Rattle.avgraph.specs.Chains.{through, passed}
 use Rattle.avgraph.specs.HostRuns.{ReadsSome, WritesPart}
 use Rattle.avgraph.specs.Reading.{Reading, GivesFrame, GivesEnd, Gives}
 use Rattle.av_frame.specs.declared.faults.NextError.{NextError}
@@ -20,10 +20,10 @@ use Rattle.av_frame.specs.declared.faults.WriteError.{WriteError}
 use Rattle.av_frame.specs.declared.faults.WriteError.TheVariants as write
 use Rattle.avgraph.specs.Writing.{Writing}
 use Rattle.avgraph.specs.Running.{Moves, MovesAll, MovesWhole, MovesPart, IsNoFrames, Runs, passed_text, stop_of_next, stop_of_write}
-use Rattle.avgraph.specs.declared.filters.Filter.{Filter}
+use Rattle.node_core.specs.declared.ready.Ready.{Ready}
 use Rattle.avgraph.specs.declared.fault.Fault.TheVariants.{NotYet}
 use Rattle.avgraph.specs.declared.fault.Stop.TheVariants as stop
-use Rattle.avgraph.proofs.FilterLemmas.{through-nil, through-push, passed-shape}
+use Rattle.avgraph.proofs.ChainLemmas.{through-nil, through-push}
 use Rattle.avgraph.proofs.FrameLemmas.{length-frame, can_begin-mark}
 
 -- ---- texts of frames
@@ -35,8 +35,8 @@ frames_text-append xs ys =
 frames_text-push : (xs : List FrameValue) (f : FrameValue) → frames_text (xs ++ f ∷ []) ≡ frames_text xs ++ frame_text f.planes
 frames_text-push xs f = frames_text-append xs (f ∷ []) ∙ ap (λ (z : List ℕ). frames_text xs ++ z) (append-nil (frame_text f.planes))
 
-passed_text-push : (filters : List Filter) (xs : List FrameValue) (f : FrameValue) → passed_text filters (xs ++ f ∷ []) ≡ passed_text filters xs ++ frame_text (passed filters f).planes
-passed_text-push filters xs f = ap frames_text (through-push filters xs f) ∙ frames_text-push (through filters xs) (passed filters f)
+passed_text-push : (readies : List Ready) (xs : List FrameValue) (f : FrameValue) → passed_text readies (xs ++ f ∷ []) ≡ passed_text readies xs ++ frame_text (passed readies f).planes
+passed_text-push readies xs f = ap frames_text (through-push readies xs f) ∙ frames_text-push (through readies xs) (passed readies f)
 
 AreFramesFrom-push : (shape : Shape) (k : ℕ) (xs : List FrameValue) (f : FrameValue) → AreFramesFrom shape k xs → IsFrameAt shape (k + length xs) f → AreFramesFrom shape k (xs ++ f ∷ [])
 AreFramesFrom-push shape k [] f are is = (subst (λ (n : ℕ). IsFrameAt shape n f) (omega arith) is, tt)
@@ -118,29 +118,29 @@ Moves-changes {put = put} ys p q = record {
 }
 
 -- How far the loop has come: which frames were read, and that they were written. The limit leaves `room` bytes of `total`.
-pub record SoFar (shape : Shape) (filters : List Filter) (total : ℕ) (old new : World) (input output room frames : ℕ) : Type 0 where
+pub record SoFar (shape : Shape) (readies : List Ready) (total : ℕ) (old new : World) (input output room frames : ℕ) : Type 0 where
   pub got : List FrameValue
   pub are_frames : AreFramesFrom shape 0 got
   pub count : length got ≡ frames
   pub size : length (frames_text got) + room ≡ total
-  pub moves : Moves old new input output (frames_text got) (passed_text filters got)
+  pub moves : Moves old new input output (frames_text got) (passed_text readies got)
 
-pub SoFar-none : (shape : Shape) (filters : List Filter) (total : ℕ) (w : World) (input output : ℕ) → SoFar shape filters total w w input output total 0
-SoFar-none shape filters total w input output = record {
+pub SoFar-none : (shape : Shape) (readies : List Ready) (total : ℕ) (w : World) (input output : ℕ) → SoFar shape readies total w w input output total 0
+SoFar-none shape readies total w input output = record {
   got = [];
   are_frames = tt;
   count = refl;
   size = omega arith;
-  moves = subst (λ (z : List ℕ). Moves w w input output [] z) (sym (ap frames_text (through-nil filters))) (Moves-nil w input output);
+  moves = subst (λ (z : List ℕ). Moves w w input output [] z) (sym (ap frames_text (through-nil readies))) (Moves-nil w input output);
 }
 
 -- a frame was refused
-pub SoFar-whole : {shape : Shape} {filters : List Filter} {total : ℕ} {a b c : World} {input output room frames : ℕ} → SoFar shape filters total a b input output room frames → ReadsSome b c input → MovesWhole shape filters a c input output
+pub SoFar-whole : {shape : Shape} {readies : List Ready} {total : ℕ} {a b c : World} {input output room frames : ℕ} → SoFar shape readies total a b input output room frames → ReadsSome b c input → MovesWhole shape readies a c input output
 SoFar-whole s r = record { frames = s.got; rest = r.0; are_frames = s.are_frames; moves = Moves-reads s.moves r.1 }
 
 -- what was left where the loop began isn't the text of frames either
-pub SoFar-stuck : {shape : Shape} {filters : List Filter} {total : ℕ} {a b : World} {input output room frames : ℕ} → SoFar shape filters total a b input output room frames → ForSome (b.inputs.left input) (IsStuck shape room) → ForSome (a.inputs.left input) (IsNoFrames shape total)
-SoFar-stuck {shape} {filters} {total} {a} {b} {input} {output} {room} {frames} s stuck = λ x e others are text within.
+pub SoFar-stuck : {shape : Shape} {readies : List Ready} {total : ℕ} {a b : World} {input output room frames : ℕ} → SoFar shape readies total a b input output room frames → ForSome (b.inputs.left input) (IsStuck shape room) → ForSome (a.inputs.left input) (IsNoFrames shape total)
+SoFar-stuck {shape} {readies} {total} {a} {b} {input} {output} {room} {frames} s stuck = λ x e others are text within.
     let rest = drop (length (frames_text s.got)) x in
     let begins = s.moves.inputs.begins x e in
     let behind = frames_behind shape 0 s.got others rest s.are_frames are (sym text ∙ begins) in
@@ -148,24 +148,24 @@ SoFar-stuck {shape} {filters} {total} {a} {b} {input} {output} {room} {frames} s
     (let size = s.size in let n = ap length begins ∙ length-append (frames_text s.got) rest in omega arith)
 
 -- the run was stopped after whole frames were written
-pub SoFar-part : {shape : Shape} {filters : List Filter} {total : ℕ} {a b c : World} {input output room frames : ℕ} → SoFar shape filters total a b input output room frames → ReadsSome b c input → MovesPart shape filters a c input output
-SoFar-part {filters} s r = record {
+pub SoFar-part : {shape : Shape} {readies : List Ready} {total : ℕ} {a b c : World} {input output room frames : ℕ} → SoFar shape readies total a b input output room frames → ReadsSome b c input → MovesPart shape readies a c input output
+SoFar-part {readies} s r = record {
   frames = s.got;
   rest = r.0;
-  count = length (passed_text filters s.got);
+  count = length (passed_text readies s.got);
   are_frames = s.are_frames;
   moves = rw take-length (Moves-reads s.moves r.1);
 }
 
-module _ {shape : Shape} {filters : List Filter} {total : ℕ} {a b c : World} {reader after : Reading} {output : ℕ} (s : SoFar shape filters total a b reader.id output reader.room reader.frames) where
+module _ {shape : Shape} {readies : List Ready} {total : ℕ} {a b c : World} {reader after : Reading} {output : ℕ} (s : SoFar shape readies total a b reader.id output reader.room reader.frames) where
   -- one more frame that is read
   are_more : {f : FrameValue} → GivesFrame shape b c reader after f → AreFramesFrom shape 0 (s.got ++ f ∷ [])
   are_more {f} g = AreFramesFrom-push shape 0 s.got f s.are_frames (subst (λ (n : ℕ). IsFrameAt shape n f) (let e = s.count in let h : reader.frames ≡ 0 + length s.got = omega arith in h) g.frame)
 
-  moves_more : {f : FrameValue} → GivesFrame shape b c reader after f → Moves a c reader.id output (frames_text (s.got ++ f ∷ [])) (passed_text filters s.got)
+  moves_more : {f : FrameValue} → GivesFrame shape b c reader after f → Moves a c reader.id output (frames_text (s.got ++ f ∷ [])) (passed_text readies s.got)
   moves_more {f} g = rw frames_text-push (Moves-reads s.moves g.reads)
 
-  pub SoFar-more : {d : World} {f : FrameValue} → GivesFrame shape b c reader after f → Changes c d output (appended (frame_text (passed filters f).planes)) → SoFar shape filters total a d reader.id output after.room after.frames
+  pub SoFar-more : {d : World} {f : FrameValue} → GivesFrame shape b c reader after f → Changes c d output (appended (frame_text (passed readies f).planes)) → SoFar shape readies total a d reader.id output after.room after.frames
   SoFar-more {d} {f} g q = record {
     got = s.got ++ f ∷ [];
     are_frames = are_more g;
@@ -176,11 +176,11 @@ module _ {shape : Shape} {filters : List Filter} {total : ℕ} {a b c : World} {
         let size = s.size in
         let within = g.within in
         omega arith;
-    moves = rw passed_text-push (Moves-changes (frame_text (passed filters f).planes) (moves_more g) q);
+    moves = rw passed_text-push (Moves-changes (frame_text (passed readies f).planes) (moves_more g) q);
   }
 
   -- all was read
-  pub SoFar-done : GivesEnd b c reader after → MovesAll shape filters total a c reader.id output
+  pub SoFar-done : GivesEnd b c reader after → MovesAll shape readies total a c reader.id output
   SoFar-done g = record {
     frames = s.got;
     are_frames = s.are_frames;
@@ -192,84 +192,79 @@ module _ {shape : Shape} {filters : List Filter} {total : ℕ} {a b c : World} {
   }
 
   -- the run was stopped after a frame was read
-  pub SoFar-read : {f : FrameValue} → GivesFrame shape b c reader after f → MovesPart shape filters a c reader.id output
+  pub SoFar-read : {f : FrameValue} → GivesFrame shape b c reader after f → MovesPart shape readies a c reader.id output
   SoFar-read {f} g = record {
     frames = s.got ++ f ∷ [];
     rest = [];
-    count = length (passed_text filters s.got);
+    count = length (passed_text readies s.got);
     are_frames = are_more g;
-    moves = rw (append-nil, passed_text-push, take-append-le (length (passed_text filters s.got)) (passed_text filters s.got) (frame_text (passed filters f).planes) (omega arith), take-length) (moves_more g);
+    moves = rw (append-nil, passed_text-push, take-append-le (length (passed_text readies s.got)) (passed_text readies s.got) (frame_text (passed readies f).planes) (omega arith), take-length) (moves_more g);
   }
 
   -- the run was stopped within a frame's text
-  pub SoFar-write_part : {d : World} {f : FrameValue} → GivesFrame shape b c reader after f → WritesPart c d output (frame_text (passed filters f).planes) → MovesPart shape filters a d reader.id output
+  pub SoFar-write_part : {d : World} {f : FrameValue} → GivesFrame shape b c reader after f → WritesPart c d output (frame_text (passed readies f).planes) → MovesPart shape readies a d reader.id output
   SoFar-write_part {d} {f} g q = record {
     frames = s.got ++ f ∷ [];
     rest = [];
-    count = length (passed_text filters s.got) + q.0;
+    count = length (passed_text readies s.got) + q.0;
     are_frames = are_more g;
-    moves = rw (append-nil, passed_text-push, take-append-add (passed_text filters s.got) (frame_text (passed filters f).planes) q.0) (Moves-changes (take q.0 (frame_text (passed filters f).planes)) (moves_more g) q.1);
+    moves = rw (append-nil, passed_text-push, take-append-add (passed_text readies s.got) (frame_text (passed readies f).planes) q.0) (Moves-changes (take q.0 (frame_text (passed readies f).planes)) (moves_more g) q.1);
   }
 
 -- ---- the calls of the loop
 
-module _ (filters : List Filter) {a b : World} (reader first : Reading) (writer : Writing) (s : SoFar writer.shape filters first.room a b reader.id writer.id reader.room reader.frames) where
-  -- a frame was read, passed through the filters and written
-  pub step : {c d : World} {after : Reading} {now : Writing} {f out : FrameValue} → GivesFrame writer.shape b c reader after f → out ≡ passed filters f → now ≡ writer → Changes c d now.id (appended (frame_text out.planes))
-      → SoFar writer.shape filters first.room a d after.id writer.id after.room after.frames
+module _ (shape : Shape) (readies : List Ready) {a b : World} (reader first : Reading) (writer : Writing) (s : SoFar shape readies first.room a b reader.id writer.id reader.room reader.frames) where
+  -- a frame was read, passed through the readies and written
+  pub step : {c d : World} {after : Reading} {now : Writing} {f out : FrameValue} → GivesFrame shape b c reader after f → out ≡ passed readies f → now ≡ writer → Changes c d now.id (appended (frame_text out.planes))
+      → SoFar shape readies first.room a d after.id writer.id after.room after.frames
   step {c} {d} {after} {now} {f} {out} g e w q =
-      let changes : Changes c d writer.id (appended (frame_text (passed filters f).planes)) =
-      subst (λ (v : Writing). Changes c d v.id (appended (frame_text (passed filters f).planes))) w (subst (λ (x : FrameValue). Changes c d now.id (appended (frame_text x.planes))) e q) in
-      subst (λ (id : ℕ). SoFar writer.shape filters first.room a d id writer.id after.room after.frames) (sym (ap (λ (r : Reading). r.id) g.after_is)) (SoFar-more s g changes)
+      let changes : Changes c d writer.id (appended (frame_text (passed readies f).planes)) =
+      subst (λ (v : Writing). Changes c d v.id (appended (frame_text (passed readies f).planes))) w (subst (λ (x : FrameValue). Changes c d now.id (appended (frame_text x.planes))) e q) in
+      subst (λ (id : ℕ). SoFar shape readies first.room a d id writer.id after.room after.frames) (sym (ap (λ (r : Reading). r.id) g.after_is)) (SoFar-more s g changes)
 
-  stuck_run : {c : World} → reader.id ≡ first.id → ReadsSome b c reader.id → ForSome (b.inputs.left reader.id) (IsStuck writer.shape reader.room) → Runs filters a c first writer (Err (stop.Fault NotYet))
+  stuck_run : {c : World} → reader.id ≡ first.id → ReadsSome b c reader.id → ForSome (b.inputs.left reader.id) (IsStuck shape reader.room) → Runs shape readies a c first writer (Err (stop.Fault NotYet))
   stuck_run {c} same r stuck = (
-    subst (λ (id : ℕ). MovesWhole writer.shape filters a c id writer.id) same (SoFar-whole s r),
-    subst (λ (id : ℕ). ForSome (a.inputs.left id) (IsNoFrames writer.shape first.room)) same (SoFar-stuck s stuck),
+    subst (λ (id : ℕ). MovesWhole shape readies a c id writer.id) same (SoFar-whole s r),
+    subst (λ (id : ℕ). ForSome (a.inputs.left id) (IsNoFrames shape first.room)) same (SoFar-stuck s stuck),
   )
 
-  part_run : {c : World} → reader.id ≡ first.id → ReadsSome b c reader.id → MovesPart writer.shape filters a c first.id writer.id
-  part_run {c} same r = subst (λ (id : ℕ). MovesPart writer.shape filters a c id writer.id) same (SoFar-part s r)
+  part_run : {c : World} → reader.id ≡ first.id → ReadsSome b c reader.id → MovesPart shape readies a c first.id writer.id
+  part_run {c} same r = subst (λ (id : ℕ). MovesPart shape readies a c id writer.id) same (SoFar-part s r)
 
   -- the next frame was refused
-  pub next_refused : (c : World) (after : Reading) (error : NextError) → reader.id ≡ first.id → Gives writer.shape b c reader after (Err error) → Runs filters a c first writer (Err (stop_of_next error))
-  next_refused c after (next.BadFrame k) same g = stuck_run same g.1.reads (λ x e. stuck_bad writer.shape reader.room x (g.1.cause x e))
-  next_refused c after (next.Truncated k) same g = stuck_run same g.1.reads (λ x e. stuck_truncated writer.shape reader.room x (g.1.cause x e))
-  next_refused c after next.TooLong same g = stuck_run same g.reads (λ x e. stuck_past writer.shape reader.room x (g.cause x e))
+  pub next_refused : (c : World) (after : Reading) (error : NextError) → reader.id ≡ first.id → Gives shape b c reader after (Err error) → Runs shape readies a c first writer (Err (stop_of_next error))
+  next_refused c after (next.BadFrame k) same g = stuck_run same g.1.reads (λ x e. stuck_bad shape reader.room x (g.1.cause x e))
+  next_refused c after (next.Truncated k) same g = stuck_run same g.1.reads (λ x e. stuck_truncated shape reader.room x (g.1.cause x e))
+  next_refused c after next.TooLong same g = stuck_run same g.reads (λ x e. stuck_past shape reader.room x (g.cause x e))
   next_refused c after next.Host same g = part_run same g.reads
   next_refused c after next.NoMemory same g = part_run same ([], subst (λ (w : World). Reads b w reader.id []) (sym g.0) (Reads-nil b reader.id))
 
-  -- what comes out has the writer's shape
-  pub same_shape : {c : World} {after : Reading} {now : Writing} {f out : FrameValue} → GivesFrame writer.shape b c reader after f → out ≡ passed filters f → now ≡ writer → out.shape ≡ now.shape
-  same_shape {f = f} g e w =
-      ap (λ (x : FrameValue). x.shape) e ∙ (passed-shape filters f ∙ (g.frame.shape_is ∙ sym (ap (λ (v : Writing). v.shape) w)))
-
   -- there was no memory for the frame behind a filter
-  pub pass_refused : {c : World} {after : Reading} {f : FrameValue} → reader.id ≡ first.id → GivesFrame writer.shape b c reader after f → MovesPart writer.shape filters a c first.id writer.id
-  pass_refused {c} same g = subst (λ (id : ℕ). MovesPart writer.shape filters a c id writer.id) same (SoFar-read s g)
+  pub pass_refused : {c : World} {after : Reading} {f : FrameValue} → reader.id ≡ first.id → GivesFrame shape b c reader after f → MovesPart shape readies a c first.id writer.id
+  pass_refused {c} same g = subst (λ (id : ℕ). MovesPart shape readies a c id writer.id) same (SoFar-read s g)
 
   -- the frame that came out was not written whole
-  pub write_refused : {c d : World} {after : Reading} {now : Writing} {f out : FrameValue} (error : WriteError) → reader.id ≡ first.id → GivesFrame writer.shape b c reader after f → out ≡ passed filters f → now ≡ writer
-      → WritesPart c d now.id (frame_text out.planes) → Runs filters a d first writer (Err (stop_of_write error))
+  pub write_refused : {c d : World} {after : Reading} {now : Writing} {f out : FrameValue} (error : WriteError) → reader.id ≡ first.id → GivesFrame shape b c reader after f → out ≡ passed readies f → now ≡ writer
+      → WritesPart c d now.id (frame_text out.planes) → Runs shape readies a d first writer (Err (stop_of_write error))
   write_refused {c} {d} {after} {now} {f} {out} error same g e w q =
-      let part : WritesPart c d writer.id (frame_text (passed filters f).planes) =
-      subst (λ (v : Writing). WritesPart c d v.id (frame_text (passed filters f).planes)) w (subst (λ (x : FrameValue). WritesPart c d now.id (frame_text x.planes)) e q) in
-      by_error error (subst (λ (id : ℕ). MovesPart writer.shape filters a d id writer.id) same (SoFar-write_part s g part))
+      let part : WritesPart c d writer.id (frame_text (passed readies f).planes) =
+      subst (λ (v : Writing). WritesPart c d v.id (frame_text (passed readies f).planes)) w (subst (λ (x : FrameValue). WritesPart c d now.id (frame_text x.planes)) e q) in
+      by_error error (subst (λ (id : ℕ). MovesPart shape readies a d id writer.id) same (SoFar-write_part s g part))
     where
-      by_error : (x : WriteError) → MovesPart writer.shape filters a d first.id writer.id → Runs filters a d first writer (Err (stop_of_write x))
+      by_error : (x : WriteError) → MovesPart shape readies a d first.id writer.id → Runs shape readies a d first writer (Err (stop_of_write x))
       by_error write.Host p = p
       by_error write.NoMemory p = p
 
   -- all was read and written
-  pub finished : {c d : World} {after : Reading} {now : Writing} → reader.id ≡ first.id → GivesEnd b c reader after → now ≡ writer → Changes c d now.id (appended []) → MovesAll writer.shape filters first.room a d first.id writer.id
+  pub finished : {c d : World} {after : Reading} {now : Writing} → reader.id ≡ first.id → GivesEnd b c reader after → now ≡ writer → Changes c d now.id (appended []) → MovesAll shape readies first.room a d first.id writer.id
   finished {c} {d} {after} {now} same g w q =
       let all = SoFar-done s g in
       let changes : Changes c d writer.id (appended []) = subst (λ (v : Writing). Changes c d v.id (appended [])) w q in
-      subst (λ (id : ℕ). MovesAll writer.shape filters first.room a d id writer.id) same
+      subst (λ (id : ℕ). MovesAll shape readies first.room a d id writer.id) same
       (record {
         frames = all.frames;
         are_frames = all.are_frames;
         within = all.within;
-        moves = subst (λ (z : List ℕ). Moves a d reader.id writer.id (frames_text all.frames) z) (append-nil (passed_text filters all.frames)) (Moves-changes [] all.moves changes);
+        moves = subst (λ (z : List ℕ). Moves a d reader.id writer.id (frames_text all.frames) z) (append-nil (passed_text readies all.frames)) (Moves-changes [] all.moves changes);
         all = all.all;
       })

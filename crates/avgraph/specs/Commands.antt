@@ -1,5 +1,5 @@
 -- What the command does to the files.
-use Rattle.std.specs.Prelude.{◌≡◌, ◌≢◌, ◌⊎◌, ◌-◌, ◌≤◌, ℕ, List, [], true, false, take, length, Some, Result, Ok, Err}
+use Rattle.std.specs.Prelude.{◌≡◌, ◌≢◌, ◌⊎◌, ◌-◌, ◌≤◌, ℕ, pos, List, [], true, false, take, length, Some, Result, Ok, Err}
 use Rattle.std.specs.Option.{ForSome}
 use Rattle.av_base.specs.declared.shapes.Shape.{Shape}
 use Rattle.av_host.specs.World.{World, Inputs}
@@ -10,13 +10,16 @@ use Rattle.av_frame.specs.declared.faults.HeadError.{HeadError}
 use Rattle.av_frame.specs.declared.faults.HeadError.TheVariants as head
 use Rattle.av_frame.specs.Frames.{FrameValue}
 use Rattle.avgraph.specs.HeaderTexts.{IsHeader, BeginsHeader, header_text}
-use Rattle.avgraph.specs.Filters.{through}
-use Rattle.avgraph.specs.Answers.{Answers, IsNotYet, BeginsFile, open_text}
+use Rattle.graph_text.specs.declared.graph.FilterCall.{FilterCall}
+use Rattle.node_core.specs.declared.ready.Ready.{Ready}
+use Rattle.avgraph.specs.Chains.{ChainValue, AreReady, through}
+use Rattle.avgraph.specs.Faults.{IsOfFile}
+use Rattle.avgraph.specs.Answers.{Answers, RefusesShape, IsFileFault, BeginsFile, open_text}
 use Rattle.avgraph.specs.Reading.{Reading}
 use Rattle.avgraph.specs.Writing.{Writing}
 use Rattle.avgraph.specs.declared.stages.Stage.TheVariants as stage
 use Rattle.avgraph.specs.declared.stages.Progress.TheVariants as progress
-use Rattle.avgraph.specs.declared.filters.Filter.{Filter}
+use Rattle.avgraph.specs.declared.fault.Fault.{Fault}
 use Rattle.avgraph.specs.declared.fault.Fault.TheVariants.{NotYet, OpenFault, ReadFault, WriteFault}
 use Rattle.avgraph.specs.declared.fault.Stop.{Stop}
 use Rattle.avgraph.specs.declared.fault.Stop.TheVariants as stop
@@ -90,6 +93,38 @@ CreatesFile old new name shape (Err (stop.Fault WriteFault)) = CreatesPart old n
 CreatesFile old new name shape (Err stop.NoMemory) = CreatesPart old new name shape
 CreatesFile old new name shape (Err other) = ⊥
 
+-- ---- making ready
+
+-- the chain runs the calls' filters, ready for pictures of a shape, and no frame was passed yet
+pub record IsChainFor (calls : List FilterCall) (shape : Shape) (chain : ChainValue) : Type 0 where
+  pub shape_is : chain.shape ≡ shape
+  pub ready : AreReady calls shape chain.readies chain.end
+  pub next : chain.next ≡ pos 0
+  pub fresh : chain.spent ≡ false
+
+-- what stops the making ready: what stands against it, or want of memory
+abbrev pub StopsShape : List FilterCall → Shape → Stop → Type 0
+StopsShape calls shape (stop.Fault fault) = RefusesShape calls shape fault
+StopsShape calls shape stop.NoMemory = Unit {0}
+
+-- the fault is one of files, and stands in the input
+pub record StandsIn (limit : ℕ) (calls : List FilterCall) (old : World) (input : List ℕ) (fault : Fault) : Type 0 where
+  pub of_file : IsOfFile fault
+  pub stands : ForSome (old.held input) (λ bytes. IsFileFault limit calls bytes fault)
+
+-- The input was opened, its header read, and the filters made ready for its pictures.
+pub record PreparesWell (limit : ℕ) (calls : List FilterCall) (old new : World) (input : List ℕ) (reader : Reading) (chain : ChainValue) : Type 0 where
+  pub opens : OpensWell limit old new input reader chain.shape
+  pub is_chain : IsChainFor calls chain.shape chain
+
+abbrev pub Prepares : ℕ → List FilterCall → World → World → List ℕ → Result (Reading × ChainValue) Stop → Type 0
+Prepares limit calls old new input (Ok both) = PreparesWell limit calls old new input both.0 both.1
+Prepares limit calls old new input (Err (stop.Fault OpenFault)) = LeavesAll old new
+Prepares limit calls old new input (Err (stop.Fault ReadFault)) = LeavesAll old new
+Prepares limit calls old new input (Err (stop.Fault WriteFault)) = LeavesAll old new
+Prepares limit calls old new input (Err (stop.Fault fault)) = LeavesAll old new × StandsIn limit calls old input fault
+Prepares limit calls old new input (Err stop.NoMemory) = LeavesAll old new
+
 -- ---- the whole command
 
 -- An input that was opened has nothing left.
@@ -100,36 +135,38 @@ pub record IsReadToEnd (old new : World) : Type 0 where
   pub left : new.inputs.left id ≡ Some []
 
 -- The whole answer was written, and the input read to its end.
-pub record Finishes (limit : ℕ) (filters : List Filter) (old new : World) (input output : List ℕ) : Type 0 where
+pub record Finishes (limit : ℕ) (calls : List FilterCall) (old new : World) (input output : List ℕ) : Type 0 where
   pub bytes : List ℕ
   pub out : List ℕ
-  pub answers : Answers limit filters bytes out
+  pub answers : Answers limit calls bytes out
   pub leaves : Leaves old new output out
   pub held : ForSome (old.held input) (λ all. all ≡ bytes)
   pub to_end : ForSome (old.held input) (λ _. IsReadToEnd old new)
 
 -- a beginning of the open text of the frames that the filters give for leading frames of the input
-pub record IsBegun (filters : List Filter) (bytes put : List ℕ) : Type 0 where
+pub record IsBegun (calls : List FilterCall) (bytes put : List ℕ) : Type 0 where
   pub shape : Shape
   pub frames : List FrameValue
+  pub readies : List Ready
+  pub end : Shape
   pub count : ℕ
   pub file : BeginsFile bytes shape frames
-  pub put_is : put ≡ take count (open_text shape (through filters frames))
+  pub ready : AreReady calls shape readies end
+  pub put_is : put ≡ take count (open_text end (through readies frames))
 
 -- The output was created, and holds a beginning of the answer.
-pub record Breaks (filters : List Filter) (old new : World) (input output : List ℕ) : Type 0 where
+pub record Breaks (calls : List FilterCall) (old new : World) (input output : List ℕ) : Type 0 where
   pub put : List ℕ
   pub leaves : Leaves old new output put
-  pub begun : ForSome (old.held input) (λ bytes. IsBegun filters bytes put)
+  pub begun : ForSome (old.held input) (λ bytes. IsBegun calls bytes put)
 
-abbrev pub Stops : List Filter → World → World → List ℕ → List ℕ → Type 0
-Stops filters old new input output = LeavesAll old new ⊎ Breaks filters old new input output
+abbrev pub Stops : List FilterCall → World → World → List ℕ → List ℕ → Type 0
+Stops calls old new input output = LeavesAll old new ⊎ Breaks calls old new input output
 
-abbrev pub Commands : ℕ → List Filter → World → World → List ℕ → List ℕ → Result (Unit {0}) Stop → Type 0
-Commands limit filters old new input output (Ok done) = Finishes limit filters old new input output
-Commands limit filters old new input output (Err (stop.Fault NotYet)) = Stops filters old new input output × ForSome (old.held input) (IsNotYet limit filters)
-Commands limit filters old new input output (Err (stop.Fault OpenFault)) = Stops filters old new input output
-Commands limit filters old new input output (Err (stop.Fault ReadFault)) = Stops filters old new input output
-Commands limit filters old new input output (Err (stop.Fault WriteFault)) = Stops filters old new input output
-Commands limit filters old new input output (Err stop.NoMemory) = Stops filters old new input output
-Commands limit filters old new input output (Err other) = ⊥
+abbrev pub Commands : ℕ → List FilterCall → World → World → List ℕ → List ℕ → Result (Unit {0}) Stop → Type 0
+Commands limit calls old new input output (Ok done) = Finishes limit calls old new input output
+Commands limit calls old new input output (Err (stop.Fault OpenFault)) = Stops calls old new input output
+Commands limit calls old new input output (Err (stop.Fault ReadFault)) = Stops calls old new input output
+Commands limit calls old new input output (Err (stop.Fault WriteFault)) = Stops calls old new input output
+Commands limit calls old new input output (Err (stop.Fault fault)) = Stops calls old new input output × StandsIn limit calls old input fault
+Commands limit calls old new input output (Err stop.NoMemory) = Stops calls old new input output

@@ -1,13 +1,18 @@
 -- What stops a command, its status and its line.
-use Rattle.std.specs.Prelude.{◌≡◌, ℕ, List, [], ◌∷◌, ◌++◌, codes, Result, Err}
-use Rattle.std.specs.Fmt.{decimal}
+use Rattle.std.specs.Prelude.{◌≡◌, ◌⊎◌, ℕ, List, [], ◌∷◌, ◌++◌, codes, Result, Err}
+use Rattle.std.specs.Fmt.{decimal, signed_decimal}
 use Rattle.av_host.specs.World.{Faults}
 use Rattle.av_host.specs.Calls.{RaisesOpenings, RaisesReads, RaisesWrites}
 use Rattle.av_text.specs.declared.fault.TextKind.{TextKind}
 use Rattle.av_text.specs.declared.fault.TextKind.TheVariants.{UnclosedQuote, LoneEscape, ExpectedName, BadLabel, Stray}
+use Rattle.av_frame.specs.declared.refusals.OptionError.{OptionError}
+use Rattle.av_frame.specs.declared.refusals.OptionError.TheVariants as option
+use Rattle.av_frame.specs.declared.refusals.ConfigError.{ConfigError}
+use Rattle.av_frame.specs.declared.refusals.ConfigError.TheVariants as config
+use Rattle.avgraph.specs.declared.fault.Fault.{Fault}
 use Rattle.avgraph.specs.declared.fault.LimitKind.{LimitKind}
 use Rattle.avgraph.specs.declared.fault.LimitKind.TheVariants.{Text, Filters}
-use Rattle.avgraph.specs.declared.fault.Fault.TheVariants.{UnknownWord, MissingValue, BadNumber, BadEnding, SameName, NoGraph, NoOutput, NotYet, OpenFault, ReadFault, WriteFault, TextFault, Limit}
+use Rattle.avgraph.specs.declared.fault.Fault.TheVariants.{UnknownWord, MissingValue, BadNumber, BadEnding, SameName, NoGraph, NoOutput, NotYet, UnknownFilter, UnknownOption, TooManyValues, BadValue, MissingOption, NoCommonFormat, SizeMismatch, BadGeometry, TooLarge, TimeBaseRange, NoValue, OpenFault, ReadFault, WriteFault, TextFault, Limit}
 use Rattle.avgraph.specs.declared.fault.Stop.{Stop}
 use Rattle.avgraph.specs.declared.fault.Stop.TheVariants as stop
 
@@ -20,6 +25,17 @@ stop_status (stop.Fault (SameName word)) = 2
 stop_status (stop.Fault NoGraph) = 2
 stop_status (stop.Fault NoOutput) = 2
 stop_status (stop.Fault (TextFault at kind)) = 3
+stop_status (stop.Fault (UnknownFilter filter)) = 4
+stop_status (stop.Fault (UnknownOption filter option)) = 4
+stop_status (stop.Fault (TooManyValues filter option)) = 4
+stop_status (stop.Fault (BadValue filter option)) = 4
+stop_status (stop.Fault (MissingOption filter)) = 4
+stop_status (stop.Fault (NoCommonFormat link)) = 7
+stop_status (stop.Fault (SizeMismatch filter a b)) = 8
+stop_status (stop.Fault (BadGeometry filter found allowed)) = 8
+stop_status (stop.Fault (TooLarge filter found allowed)) = 8
+stop_status (stop.Fault (TimeBaseRange filter)) = 8
+stop_status (stop.Fault (NoValue filter option)) = 8
 stop_status (stop.Fault (Limit kind which allowed)) = 10
 stop_status (stop.Fault OpenFault) = 11
 stop_status (stop.Fault ReadFault) = 12
@@ -48,6 +64,18 @@ stop_text (stop.Fault (SameName word)) = codes "SameName word=" ++ decimal word
 stop_text (stop.Fault NoGraph) = codes "NoGraph"
 stop_text (stop.Fault NoOutput) = codes "NoOutput"
 stop_text (stop.Fault NotYet) = codes "NotYet"
+stop_text (stop.Fault (UnknownFilter filter)) = codes "UnknownFilter filter=" ++ decimal filter
+stop_text (stop.Fault (UnknownOption filter option)) = codes "UnknownOption filter=" ++ decimal filter ++ codes " option=" ++ decimal option
+stop_text (stop.Fault (TooManyValues filter option)) = codes "TooManyValues filter=" ++ decimal filter ++ codes " option=" ++ decimal option
+stop_text (stop.Fault (BadValue filter option)) = codes "BadValue filter=" ++ decimal filter ++ codes " option=" ++ decimal option
+stop_text (stop.Fault (MissingOption filter)) = codes "MissingOption filter=" ++ decimal filter
+stop_text (stop.Fault (NoCommonFormat link)) = codes "NoCommonFormat link=" ++ decimal link
+stop_text (stop.Fault (SizeMismatch filter a b)) = codes "SizeMismatch filter=" ++ decimal filter ++ codes " a=" ++ decimal a ++ codes " b=" ++ decimal b
+stop_text (stop.Fault (BadGeometry filter found allowed)) =
+    codes "BadGeometry filter=" ++ decimal filter ++ codes " found=" ++ signed_decimal found ++ codes " allowed=" ++ signed_decimal allowed
+stop_text (stop.Fault (TooLarge filter found allowed)) = codes "TooLarge filter=" ++ decimal filter ++ codes " found=" ++ decimal found ++ codes " allowed=" ++ decimal allowed
+stop_text (stop.Fault (TimeBaseRange filter)) = codes "TimeBaseRange filter=" ++ decimal filter
+stop_text (stop.Fault (NoValue filter option)) = codes "NoValue filter=" ++ decimal filter ++ codes " option=" ++ decimal option
 stop_text (stop.Fault OpenFault) = codes "OpenFault count=1"
 stop_text (stop.Fault ReadFault) = codes "ReadFault count=1"
 stop_text (stop.Fault WriteFault) = codes "WriteFault count=1"
@@ -58,6 +86,33 @@ stop_text stop.NoMemory = codes "NoMemory"
 
 abbrev pub stop_line : Stop → List ℕ
 stop_line stops = codes "avgraph: " ++ stop_text stops ++ 10 ∷ []
+
+-- a fault of the graph text, of its filters' names and options, or of a limit
+abbrev pub IsOfText : Fault → Type 0
+IsOfText fault = (stop_status (stop.Fault fault) ≡ 3) ⊎ ((stop_status (stop.Fault fault) ≡ 4) ⊎ (stop_status (stop.Fault fault) ≡ 10))
+
+-- a fault that stands in a file, or in what filters make of its shape
+abbrev pub IsOfFile : Fault → Type 0
+IsOfFile fault = (stop_status (stop.Fault fault) ≡ 7) ⊎ ((stop_status (stop.Fault fault) ≡ 8) ⊎ (stop_status (stop.Fault fault) ≡ 15))
+
+-- what stops the command where a filter's arguments are refused
+abbrev pub option_stop : ℕ → OptionError → Stop
+option_stop filter option.UnknownFilter = stop.Fault (UnknownFilter filter)
+option_stop filter (option.UnknownOption k) = stop.Fault (UnknownOption filter k)
+option_stop filter (option.TooManyValues k) = stop.Fault (TooManyValues filter k)
+option_stop filter (option.BadValue k) = stop.Fault (BadValue filter k)
+option_stop filter option.MissingOption = stop.Fault (MissingOption filter)
+option_stop filter option.NotYet = stop.Fault NotYet
+option_stop filter option.NoMemory = stop.NoMemory
+
+-- what stops it where a filter can't be made ready
+abbrev pub config_stop : ℕ → ConfigError → Stop
+config_stop filter (config.SizeMismatch a b) = stop.Fault (SizeMismatch filter a b)
+config_stop filter (config.BadGeometry found allowed) = stop.Fault (BadGeometry filter found allowed)
+config_stop filter config.TimeBaseRange = stop.Fault (TimeBaseRange filter)
+config_stop filter (config.TooLarge found allowed) = stop.Fault (TooLarge filter found allowed)
+config_stop filter (config.NoValue k) = stop.Fault (NoValue filter k)
+config_stop filter config.NoMemory = stop.NoMemory
 
 -- each count rises exactly with its fault
 abbrev pub CountsStop : {T : Type 0} → Result T Stop → Faults → Faults → Type 0

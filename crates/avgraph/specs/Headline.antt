@@ -4,16 +4,13 @@ use Rattle.std.specs.Option.{ForSome}
 use Rattle.av_host.specs.World.{World, Faults}
 use Rattle.av_host.specs.Calls.{Says, Rises}
 use Rattle.avgraph.specs.HostRuns.{SaysPart}
-use Rattle.av_text.specs.declared.fault.TextKind.{TextKind}
 use Rattle.avgraph.specs.declared.fault.Fault.{Fault}
-use Rattle.avgraph.specs.declared.fault.Fault.TheVariants.{TextFault, Limit}
-use Rattle.avgraph.specs.declared.fault.LimitKind.{LimitKind}
 use Rattle.avgraph.specs.declared.fault.Stop.{Stop}
 use Rattle.avgraph.specs.declared.fault.Stop.TheVariants as stop
-use Rattle.avgraph.specs.declared.filters.Filter.{Filter}
+use Rattle.graph_text.specs.declared.graph.FilterCall.{FilterCall}
 use Rattle.avgraph.specs.Requests.{Request, IsRequest, IsRefused, IsRefusedAtOnce}
-use Rattle.avgraph.specs.Faults.{CountsStop, stop_status, stop_line}
-use Rattle.avgraph.specs.Answers.{Answers, IsNotYet}
+use Rattle.avgraph.specs.Faults.{IsOfText, CountsStop, stop_status, stop_line}
+use Rattle.avgraph.specs.Answers.{Answers, IsFileFault}
 use Rattle.avgraph.specs.Commands.{Commands, KeepsInputs, IsReadToEnd, IsBegun}
 
 -- A beginning of the line was said, and all of it where no saying failed. Nothing else was asked of the host.
@@ -32,13 +29,12 @@ Reports old new (Err stops) status = (status ≡ stop_status stops) × Prints ol
 -- what the words do, up to the printing
 pub record Obeys (limit : ℕ) (words : List (List ℕ)) (old new : World) (outcome : Result (Unit {0}) Stop) : Type 0 where
   -- what they ask for is done, or stopped
-  pub requests : (request : Request) → IsRequest words request → Commands limit request.filters old new request.input request.output outcome
+  pub requests : (request : Request) → IsRequest words request → Commands limit request.calls old new request.input request.output outcome
   -- what refuses them is the outcome, with want of memory beside it where the text has to be read, and no call is made
   pub refusals : (fault : Fault) → IsRefused words fault → ((outcome ≡ Err (stop.Fault fault)) ⊎ (outcome ≡ Err stop.NoMemory)) × (new ≡ old)
   pub at_once : (fault : Fault) → IsRefusedAtOnce words fault → (outcome ≡ Err (stop.Fault fault)) × (new ≡ old)
-  -- the faults of texts and limits stand in them, and what is done was asked for
-  pub texts : (at : ℕ) (kind : TextKind) → outcome ≡ Err (stop.Fault (TextFault at kind)) → IsRefused words (TextFault at kind) × (new ≡ old)
-  pub limits : (kind : LimitKind) (which allowed : ℕ) → outcome ≡ Err (stop.Fault (Limit kind which allowed)) → IsRefused words (Limit kind which allowed) × (new ≡ old)
+  -- the faults of texts, filters and limits stand in them, and what is done was asked for
+  pub stands : (fault : Fault) → outcome ≡ Err (stop.Fault fault) → IsOfText fault → IsRefused words fault × (new ≡ old)
   pub asked : (done : Unit {0}) → outcome ≡ Ok done → (request : Request) × IsRequest words request
   pub counts : CountsStop outcome old.faults new.faults
   pub said : new.said ≡ old.said
@@ -70,24 +66,24 @@ pub record IsQuiet (old new : Faults) : Type 0 where
   pub writes : (new.writes ≡ old.writes) × (new.writes < 2 ^ 64 - 1)
 
 -- The output holds the whole answer, and nothing is left of the input.
-pub record Done (limit : ℕ) (filters : List Filter) (old new : World) (output : List ℕ) (bytes : List ℕ) : Type 0 where
+pub record Done (limit : ℕ) (calls : List FilterCall) (old new : World) (output : List ℕ) (bytes : List ℕ) : Type 0 where
   pub out : List ℕ
-  pub answers : Answers limit filters bytes out
+  pub answers : Answers limit calls bytes out
   pub content : ForSome (old.outputs.content output) (λ _. new.outputs.content output ≡ Some (Some out))
   pub to_end : IsReadToEnd old new
 
--- With no failed call the status is that of the answer, or want of memory.
-pub record Completes (limit : ℕ) (filters : List Filter) (status : ℕ) (bytes : List ℕ) : Type 0 where
-  pub answered : (out : List ℕ) → Answers limit filters bytes out → (status ≡ 0) ⊎ (status ≡ 14)
-  pub not_yet : IsNotYet limit filters bytes → (status ≡ 15) ⊎ (status ≡ 14)
+-- With no failed call the status is that of the answer or of the fault, or want of memory.
+pub record Completes (limit : ℕ) (calls : List FilterCall) (status : ℕ) (bytes : List ℕ) : Type 0 where
+  pub answered : (out : List ℕ) → Answers limit calls bytes out → (status ≡ 0) ⊎ (status ≡ 14)
+  pub refused : (fault : Fault) → IsFileFault limit calls bytes fault → (status ≡ stop_status (stop.Fault fault)) ⊎ (status ≡ 14)
 
 -- Nothing of the files changed but, it may be, the output, which holds a beginning of the answer.
-pub record Keeps (filters : List Filter) (old new : World) (input output : List ℕ) : Type 0 where
+pub record Keeps (calls : List FilterCall) (old new : World) (input output : List ℕ) : Type 0 where
   pub held : new.held ≡ old.held
   pub inputs : KeepsInputs old.inputs new.inputs
   pub other_outputs : (other : List ℕ) → other ≢ output → new.outputs.content other ≡ old.outputs.content other
   pub content : (new.outputs.content output ≡ old.outputs.content output)
-      ⊎ ForSome (old.outputs.content output) (λ _. ForSome (old.held input) (λ bytes. (put : List ℕ) × IsBegun filters bytes put × (new.outputs.content output ≡ Some (Some put))))
+      ⊎ ForSome (old.outputs.content output) (λ _. ForSome (old.held input) (λ bytes. (put : List ℕ) × IsBegun calls bytes put × (new.outputs.content output ≡ Some (Some put))))
 
 -- A beginning of the line was said, and all of it where no saying failed.
 pub record SaysLine (old new : World) (line : List ℕ) : Type 0 where
@@ -97,3 +93,10 @@ pub record SaysLine (old new : World) (line : List ℕ) : Type 0 where
 -- the line of the stop that has this status
 abbrev pub SaysStatus : World → World → ℕ → Type 0
 SaysStatus old new status = (stops : Stop) × (status ≡ stop_status stops) × SaysLine old new (stop_line stops)
+
+-- A fault that stands in the file is told, by its status and its line.
+pub record Names (limit : ℕ) (calls : List FilterCall) (old new : World) (status : ℕ) (bytes : List ℕ) : Type 0 where
+  pub fault : Fault
+  pub stands : IsFileFault limit calls bytes fault
+  pub status_is : status ≡ stop_status (stop.Fault fault)
+  pub said : SaysLine old new (stop_line (stop.Fault fault))

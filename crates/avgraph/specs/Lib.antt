@@ -5,10 +5,9 @@ pub mod Numerals
 pub mod Reading
 pub mod Pieces
 pub mod Writing
-pub mod Flips
-pub mod Filters
 pub mod Faults
 pub mod Words
+pub mod Chains
 pub mod Requests
 pub mod Running
 pub mod Answers

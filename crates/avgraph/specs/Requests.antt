@@ -1,48 +1,61 @@
 -- What words ask for, or why they are refused.
-use Rattle.std.specs.Prelude.{◌≡◌, ◌<◌, ◌≤◌, ◌+◌, ◌⊎◌, ℕ, List, [], Some, None, length, codes}
-use Rattle.std.specs.List.{AllZip}
+use Rattle.std.specs.Prelude.{◌≡◌, ◌<◌, ◌≤◌, ◌+◌, ◌⊎◌, ℕ, List, [], ◌∷◌, Some, None, length}
+use Rattle.std.specs.List.{AllZip, AllByRecursion}
 use Rattle.av_text.specs.declared.fault.TextKind.{TextKind}
 use Rattle.graph_text.specs.Graphs.{IsGraph, IsGraphFault}
 use Rattle.graph_text.specs.declared.graph.FilterCall.{FilterCall}
-use Rattle.avgraph.specs.declared.filters.Filter.{Filter}
-use Rattle.avgraph.specs.declared.filters.Filter.TheVariants.{Hflip, Null}
+use Rattle.av_frame.specs.declared.refusals.OptionError.{OptionError}
+use Rattle.node_core.specs.declared.kind.Kind.{Kind}
+use Rattle.node_core.specs.Kinds.{IsKind, IsKindFault}
 use Rattle.avgraph.specs.declared.fault.Fault.{Fault}
 use Rattle.avgraph.specs.declared.fault.Fault.TheVariants.{NotYet, TextFault, Limit}
 use Rattle.avgraph.specs.declared.fault.LimitKind.TheVariants.{Text, Filters}
 use Rattle.avgraph.specs.declared.fault.Stop.{Stop}
 use Rattle.avgraph.specs.declared.fault.Stop.TheVariants as stop
+use Rattle.avgraph.specs.Faults.{option_stop}
 use Rattle.avgraph.specs.Words.{words_of}
 
 -- ---- texts
 
-abbrev pub name_of : Filter → List ℕ
-name_of Hflip = codes "hflip"
-name_of Null = codes "null"
-
--- the call of a filter that can run today: in the first chain, without labels and arguments
-pub record Calls (call : FilterCall) (filter : Filter) : Type 0 where
-  pub name : call.name ≡ name_of filter
+-- a call of the first chain, without labels
+pub record IsBare (call : FilterCall) : Type 0 where
   pub chain : call.chain ≡ 0
-  pub args : call.args ≡ []
   pub ins : call.ins ≡ []
   pub outs : call.outs ≡ []
 
--- the text calls one chain of these filters, within the limits
-pub record SaysFilters (text : List ℕ) (filters : List Filter) : Type 0 where
-  pub calls : List FilterCall
+-- the text calls one chain of filters without labels, within the limits, and none of them is refused
+pub record SaysFilters (text : List ℕ) (calls : List FilterCall) : Type 0 where
   pub short : length text ≤ 65_536
   pub graph : IsGraph text calls
   pub few : length calls ≤ 256
-  pub chain : AllZip Calls calls filters
+  pub kinds : List Kind
+  pub are_kinds : AllZip IsKind calls kinds
+  pub chain : AllByRecursion IsBare calls
 
--- why it does not: it is too long; else it has no reading; else it has too many filters; else it can't run today
+-- the first call that is refused, of which the first listed is the n-th filter, stops the command with this
+abbrev pub IsRefusedCall : ℕ → List FilterCall → Stop → Type 0
+IsRefusedCall n [] stops = ⊥
+IsRefusedCall n (call ∷ calls) stops = ((e : OptionError) × IsKindFault call e × (stops ≡ option_stop n e))
+    ⊎ ((kind : Kind) × IsKind call kind × IsRefusedCall (n + 1) calls stops)
+
+-- why calls are refused: they are too many; else one of them is refused; else they aren't one chain without labels, which
+-- alone can run today
+pub data RefusesCalls (calls : List FilterCall) (fault : Fault) : Type 0 where
+  TooMany : 256 < length calls → fault ≡ Limit Filters 0 256 → RefusesCalls calls fault
+  BadCall : length calls ≤ 256 → IsRefusedCall 0 calls (stop.Fault fault) → RefusesCalls calls fault
+  NoChain : length calls ≤ 256 → (kinds : List Kind) → AllZip IsKind calls kinds → ¬ AllByRecursion IsBare calls → fault ≡ NotYet → RefusesCalls calls fault
+
+-- why a text is refused: it is too long; else it has no reading; else its calls are refused
 pub data RefusesText (text : List ℕ) (fault : Fault) : Type 0 where
   TooLong : 65_536 < length text → fault ≡ Limit Text 0 65_536 → RefusesText text fault
   NoReading : length text ≤ 65_536 → (at : ℕ) (kind : TextKind) (bad : List ℕ) → IsGraphFault text kind bad → at + length bad ≡ length text
       → fault ≡ TextFault at kind → RefusesText text fault
-  TooMany : length text ≤ 65_536 → (calls : List FilterCall) → IsGraph text calls → 256 < length calls → fault ≡ Limit Filters 0 256 → RefusesText text fault
-  OtherCalls : length text ≤ 65_536 → (calls : List FilterCall) → IsGraph text calls → length calls ≤ 256
-      → ((filters : List Filter) → ¬ AllZip Calls calls filters) → fault ≡ NotYet → RefusesText text fault
+  BadCalls : length text ≤ 65_536 → (calls : List FilterCall) → IsGraph text calls → RefusesCalls calls fault → RefusesText text fault
+
+-- what stops the reading of calls: what refuses them, or want of memory
+abbrev pub StopsCalls : List FilterCall → Stop → Type 0
+StopsCalls calls (stop.Fault fault) = RefusesCalls calls fault
+StopsCalls calls stop.NoMemory = Unit {0}
 
 -- what stops the reading of a text: what refuses it, or want of memory, where it isn't too long
 abbrev pub StopsText : List ℕ → Stop → Type 0
@@ -51,16 +64,16 @@ StopsText text stop.NoMemory = length text ≤ 65_536
 
 -- ---- words
 
--- what is read, the filters that its frames pass, and what is written
+-- what is read, the calls of the filters that its frames pass, and what is written
 pub record Request : Type 0 where
   pub input : List ℕ
-  pub filters : List Filter
+  pub calls : List FilterCall
   pub output : List ℕ
 
 pub record IsRequest (words : List (List ℕ)) (request : Request) : Type 0 where
   pub text : List ℕ
   pub words_are : words_of words ≡ Some (request.input, text, request.output)
-  pub says : SaysFilters text request.filters
+  pub says : SaysFilters text request.calls
 
 -- words of another form, or a text that is refused
 abbrev pub IsRefused : List (List ℕ) → Fault → Type 0

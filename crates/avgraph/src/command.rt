@@ -1,23 +1,26 @@
 //! The command on named files.
-ghost use Rattle.std.specs.Prelude.{◌≡◌};
+ghost use Rattle.std.specs.Prelude.{◌≡◌, ◌≤◌, List, length};
+ghost use Rattle.std.specs.List.{AllZip};
+ghost use Rattle.graph_text.specs.declared.graph.FilterCall.{FilterCall};
+ghost use Rattle.node_core.specs.Kinds.{IsKind};
 ghost use Rattle.avgraph.specs.HeaderTexts.{IsWritable};
-ghost use Rattle.avgraph.specs.Commands.{Commands, OpensFile, CreatesFile, stop_of_opening, stop_of_head};
+ghost use Rattle.avgraph.specs.Commands.{Commands, Prepares, OpensFile, CreatesFile, stop_of_opening, stop_of_head};
 ghost use Rattle.avgraph.specs.Faults.{CountsStop};
 ghost use Rattle.avgraph.specs.declared.TheConstants.{LIMIT};
 
 use crate::LIMIT;
+use crate::chain::Chain;
 use crate::fault::{Fault, Stop};
-use crate::filters::Filter;
 use crate::reader::Reader;
+use crate::ready::ready_chain;
 use crate::run::{pass_all, stopped_writing};
 use crate::writer::Writer;
 use av_base::{NoMemory, Shape};
 use av_frame::{HeadError, Pools};
 use av_host::{Host, HostError};
+use node_core::Kind;
 use std::alloc::Global;
-
-/// The longest row of a picture, in samples.
-const ROW_MAX: usize = 8192;
+use std::thread::Threads;
 
 /// What a refused opening or creation stops the command with.
 fn stopped_opening(error: HostError) -> Stop
@@ -79,41 +82,62 @@ fn create<H: Host>(alloc: Global, host: &mut H, name: &str, shape: Shape) -> Res
     }
 }
 
-/// Writes the input to the output, each frame as it comes out of the filters.
-pub(crate) fn run_command<H: Host>(
+/// Opens the input, reads its header, and makes the filters ready for its pictures.
+fn prepare<H: Host>(
     alloc: Global,
     host: &mut H,
-    filters: &[Filter],
+    kinds: &[Kind],
+    name: &str,
+) -> Result<(Reader, Chain), Stop>
+    requires few { length kinds.now ≤ 256 }
+    requires named { (calls : List FilterCall) × AllZip IsKind calls kinds.now }
+    ensures prepares { (calls : List FilterCall) → AllZip IsKind calls kinds.now → Prepares LIMIT calls (H.world host.old) (H.world host.new) name.now result }
+    ensures faults { CountsStop result (H.world host.old).faults (H.world host.new).faults }
+{
+    let (reader, shape) = match open(alloc, host, name) {
+        Ok(opened) => opened,
+        Err(stop) => return Err(stop),
+    };
+    match ready_chain(alloc, kinds, shape) {
+        Ok(chain) => Ok((reader, chain)),
+        Err(stop) => Err(stop),
+    }
+}
+
+/// Writes the input to the output, each frame as it comes out of the filters.
+pub(crate) fn run_command<R: Threads + Sync, H: Host>(
+    rt: &R,
+    alloc: Global,
+    host: &mut H,
+    kinds: &[Kind],
     input: &str,
     output: &str,
 ) -> Result<(), Stop>
-    ensures commands { Commands LIMIT filters.now (H.world host.old) (H.world host.new) input.now output.now result }
+    requires few { length kinds.now ≤ 256 }
+    requires named { (calls : List FilterCall) × AllZip IsKind calls kinds.now }
+    ensures commands { (calls : List FilterCall) → AllZip IsKind calls kinds.now → Commands LIMIT calls (H.world host.old) (H.world host.new) input.now output.now result }
     ensures faults { CountsStop result (H.world host.old).faults (H.world host.new).faults }
 {
     let mut pools = match Pools::new(alloc) {
         Ok(pools) => pools,
         Err(NoMemory) => return Err(Stop::NoMemory),
     };
-    let mut buffer = match vec![in alloc; 0u8; ROW_MAX] {
-        Ok(buffer) => buffer,
-        Err(_) => return Err(Stop::NoMemory),
-    };
-    let (mut reader, shape) = match open(alloc, host, input) {
-        Ok(opened) => opened,
+    let (mut reader, mut chain) = match prepare(alloc, host, kinds, input) {
+        Ok(prepared) => prepared,
         Err(stop) => return Err(stop),
     };
-    let mut writer = match create(alloc, host, output, shape) {
+    let mut writer = match create(alloc, host, output, chain.end()) {
         Ok(writer) => writer,
         Err(stop) => return Err(stop),
     };
     match pass_all(
+        rt,
         alloc,
         host,
         &mut reader,
         &mut writer,
         &mut pools,
-        filters,
-        &mut buffer,
+        &mut chain,
     ) {
         Ok(()) => Ok(()),
         Err(stop) => Err(stop),

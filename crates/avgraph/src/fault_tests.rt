@@ -30,6 +30,44 @@ fn each_stop_has_its_line_and_its_status(rt: HostRuntime) {
 }
 
 #[test]
+fn a_fault_of_a_filter_tells_its_numbers(rt: HostRuntime) {
+    for (fault, code, said) in [
+        (
+            Fault::MissingOption { filter: 255 },
+            4,
+            "avgraph: MissingOption filter=255\n",
+        ),
+        (
+            Fault::TimeBaseRange { filter: 2 },
+            8,
+            "avgraph: TimeBaseRange filter=2\n",
+        ),
+        (
+            Fault::SizeMismatch {
+                filter: 4294967295,
+                a: 18446744073709551615,
+                b: 0,
+            },
+            8,
+            "avgraph: SizeMismatch filter=4294967295 a=18446744073709551615 b=0\n",
+        ),
+        (
+            Fault::BadGeometry {
+                filter: 4294967295,
+                found: -9223372036854775808,
+                allowed: -1,
+            },
+            8,
+            "avgraph: BadGeometry filter=4294967295 found=-9223372036854775808 allowed=-1\n",
+        ),
+    ] {
+        let stop = Stop::Fault(fault);
+        assert_eq!(rt; line(stop).as_str(), said);
+        assert_eq!(rt; status(stop), code, "{said}");
+    }
+}
+
+#[test]
 fn a_fault_of_the_words_tells_its_word(rt: HostRuntime) {
     for (fault, said) in [
         (

@@ -1,17 +1,17 @@
 //! The command: from words and files to files.
 #![tactic(auto)]
 
+mod chain;
 mod command;
 mod command_parts;
 mod command_words;
 mod fault;
-mod filters;
-pub mod flip;
 mod form;
 mod header;
 mod host_runs;
 pub mod law;
 pub mod reader;
+mod ready;
 mod request;
 mod rows;
 mod run;
@@ -26,7 +26,6 @@ pub mod writer;
 
 pub use command_words::{Command, InputWord, OutputWord, read_words};
 pub use fault::{Fault, LimitKind, Stop};
-pub use filters::Filter;
 pub use stages::{Progress, Stage};
 pub use top::{Gate, OpenGate, avgraph};
 pub use word_faults::WordError;

@@ -1,13 +1,16 @@
 //! The filters that a graph text asks for.
-ghost use Rattle.std.specs.Prelude.{◌≡◌, ◌⊎◌, List, IfOk, IfErr, IfSome, IsNone};
-ghost use Rattle.std.specs.List.{AllZip};
-ghost use Rattle.avgraph.specs.declared.filters.Filter.{Filter};
-ghost use Rattle.avgraph.specs.Requests.{Calls, SaysFilters, StopsText};
+ghost use Rattle.std.specs.Prelude.{◌≡◌, ◌⊎◌, ◌<◌, ◌≤◌, ◌^◌, List, false, length, IsTrue, IfOk, IfErr};
+ghost use Rattle.std.specs.List.{AllZip, AllByRecursion};
+ghost use Rattle.graph_text.specs.declared.graph.FilterCall.{FilterCall};
+ghost use Rattle.node_core.specs.Kinds.{IsKind};
+ghost use Rattle.avgraph.specs.Faults.{option_stop};
+ghost use Rattle.avgraph.specs.Requests.{IsBare, SaysFilters, IsRefusedCall, StopsCalls, StopsText};
 
 use crate::fault::{Fault, LimitKind, Stop};
-use crate::filters::Filter;
+use av_frame::OptionError;
 use av_text::TextError;
 use graph_text::{FilterCall, parse};
+use node_core::Kind;
 use std::alloc::Global;
 
 /// The greatest number of bytes of a graph text.
@@ -16,48 +19,80 @@ const TEXT_MAX: usize = 65_536;
 /// The greatest number of filters of a graph.
 const FILTERS_MAX: usize = 256;
 
-/// The filter that a call names, if it can run today: in the first chain, without labels and arguments.
-fn filter_of(call: &FilterCall) -> Option<Filter>
-    ensures filter { IfSome result (Calls call.now) }
-    ensures none { IsNone result → (filter : Filter) → Calls call.now filter → ⊥ }
+/// What stops the command where the arguments of a filter are refused.
+fn stopped_option(filter: u32, error: OptionError) -> Stop
+    ensures { result ≡ option_stop filter error }
 {
-    let is_bare = call.chain == 0
-        && call.args.as_slice().is_empty()
-        && call.ins.as_slice().is_empty()
-        && call.outs.as_slice().is_empty();
-    match call.name.as_str() {
-        "hflip" if is_bare => Some(Filter::Hflip),
-        "null" if is_bare => Some(Filter::Null),
-        _ => None,
-    }
+    Stop::Fault(match error {
+        OptionError::UnknownFilter => Fault::UnknownFilter { filter },
+        OptionError::UnknownOption { option } => Fault::UnknownOption { filter, option },
+        OptionError::TooManyValues { option } => Fault::TooManyValues { filter, option },
+        OptionError::BadValue { option } => Fault::BadValue { filter, option },
+        OptionError::MissingOption => Fault::MissingOption { filter },
+        OptionError::NotYet => Fault::NotYet,
+        OptionError::NoMemory => return Stop::NoMemory,
+    })
 }
 
-/// The filters that calls name.
-fn filters_of(alloc: Global, calls: &[FilterCall]) -> Result<Vec<Filter>, Stop>
-    ensures filters { IfOk result (λ filters. AllZip Calls calls.now filters.items) }
-    ensures stop { IfErr result (λ stop. (stop ≡ Stop.NoMemory)
-        ⊎ ((stop ≡ Stop.Fault Fault.NotYet) × ((filters : List Filter) → ¬ AllZip Calls calls.now filters))) }
+/// The filters that calls name, with the options that their arguments give them.
+fn kinds_of(alloc: Global, calls: &[FilterCall]) -> Result<Vec<Kind>, Stop>
+    requires few { length calls.now ≤ 256 }
+    requires args { AllByRecursion (λ call. length call.args < 2 ^ 32) calls.now }
+    ensures kinds { IfOk result (λ kinds. AllZip IsKind calls.now kinds.items) }
+    ensures stop { IfErr result (λ stop. (stop ≡ Stop.NoMemory) ⊎ IsRefusedCall 0 calls.now stop) }
 {
-    let mut filters = Vec::new(alloc);
-    for call in calls {
-        let Some(filter) = filter_of(call) else {
-            return Err(Stop::Fault(Fault::NotYet));
+    let mut kinds = Vec::new(alloc);
+    for (filter, call) in calls.iter().enumerate() {
+        let kind = match Kind::read(alloc, call) {
+            Ok(kind) => kind,
+            Err(error) => return Err(stopped_option(filter as u32, error)),
         };
-        match filters.push(filter) {
+        match kinds.push(kind) {
             Ok(()) => {}
             Err(_) => return Err(Stop::NoMemory),
         }
     }
-    Ok(filters)
+    Ok(kinds)
+}
+
+/// Whether the calls are one chain without labels.
+fn is_chain(calls: &[FilterCall]) -> bool
+    ensures chain { IsTrue result → AllByRecursion IsBare calls.now }
+    ensures none { result ≡ false → ¬ AllByRecursion IsBare calls.now }
+{
+    for call in calls {
+        let is_bare = call.chain == 0
+            && call.ins.as_slice().is_empty()
+            && call.outs.as_slice().is_empty();
+        if !is_bare {
+            return false;
+        }
+    }
+    true
+}
+
+/// The filters that calls name, where they can run today.
+fn chain_of(alloc: Global, calls: &[FilterCall]) -> Result<Vec<Kind>, Stop>
+    requires few { length calls.now ≤ 256 }
+    requires args { AllByRecursion (λ call. length call.args < 2 ^ 32) calls.now }
+    ensures kinds { IfOk result (λ kinds. AllZip IsKind calls.now kinds.items × AllByRecursion IsBare calls.now) }
+    ensures stop { IfErr result (StopsCalls calls.now) }
+{
+    let kinds = kinds_of(alloc, calls)?;
+    if is_chain(calls) {
+        Ok(kinds)
+    } else {
+        Err(Stop::Fault(Fault::NotYet))
+    }
 }
 
 /// The filters that a graph text asks for.
 ///
 /// # Errors
-/// The limit of bytes; else the fault of the text; else the limit of filters; else `NotYet` where the calls aren't one
-/// chain of filters that can run today. Want of memory.
-pub(crate) fn read_filters(alloc: Global, text: &str) -> Result<Vec<Filter>, Stop>
-    ensures filters { IfOk result (λ filters. SaysFilters text.now filters.items) }
+/// The limit of bytes; else the fault of the text; else the limit of filters; else what the first filter is refused for
+/// that is refused; else `NotYet` where the calls aren't one chain without labels. Want of memory.
+pub(crate) fn read_filters(alloc: Global, text: &str) -> Result<Vec<Kind>, Stop>
+    ensures filters { IfOk result (λ kinds. (calls : List FilterCall) × SaysFilters text.now calls × AllZip IsKind calls kinds.items) }
     ensures stop { IfErr result (StopsText text.now) }
 {
     if text.len() > TEXT_MAX {
@@ -77,7 +112,7 @@ pub(crate) fn read_filters(alloc: Global, text: &str) -> Result<Vec<Filter>, Sto
     if calls.len() > FILTERS_MAX {
         return Err(limit(LimitKind::Filters, FILTERS_MAX));
     }
-    filters_of(alloc, calls)
+    chain_of(alloc, calls)
 }
 
 /// The refusal of a quantity that passes its limit.

@@ -131,7 +131,7 @@ fn files_outside_the_form_are_refused_at_their_place(rt: HostRuntime) -> Result<
 #[test]
 fn other_words_ask_the_host_for_nothing_but_a_saying(rt: HostRuntime) -> Result<(), Fail> {
     for names in [
-        ["-i", "a.y4m", "-filter_complex", "vflip", "b.y4m"],
+        ["-i", "a.y4m", "-filter_complex", "fps", "b.y4m"],
         ["-i", "a.y4m", "-filter_complex", "hflip", "a.y4m"],
         ["-i", "a.y4m", "-filter_complex", "hflip", "b.wav"],
         ["-i", "a.y4m", "-filter_complex", "hflip", "-b.y4m"],

@@ -5,9 +5,8 @@ ghost use Rattle.avgraph.specs.declared.TheConstants.{LIMIT};
 ghost use Rattle.avgraph.specs.declared.fault.Fault.{Fault};
 ghost use Rattle.avgraph.specs.declared.fault.Stop.{Stop};
 ghost use Rattle.avgraph.specs.Requests.{Request, IsRequest, IsRefused, IsRefusedAtOnce};
-ghost use Rattle.avgraph.specs.HeaderTexts.{BeginsHeader};
-ghost use Rattle.avgraph.specs.Answers.{IsNotYet};
-ghost use Rattle.avgraph.specs.Headline.{Reports, Obeys, Acts, Refuses, HasCause, IsQuiet, Done, Completes, Keeps, SaysStatus};
+ghost use Rattle.avgraph.specs.Answers.{IsReadyFor};
+ghost use Rattle.avgraph.specs.Headline.{Reports, Obeys, Acts, Refuses, HasCause, IsQuiet, Done, Completes, Keeps, Names, SaysStatus};
 
 use crate::command::run_command;
 use crate::fault::{Fault, Stop, line, status};
@@ -42,32 +41,38 @@ fn report<H: Host>(host: &mut H, outcome: Result<(), Stop>) -> u8
 }
 
 /// Obeys the words.
-fn obey<H: Host>(alloc: Global, words: &[String], host: &mut H) -> Result<(), Stop>
+fn obey<R: Threads + Sync, H: Host>(
+    rt: &R,
+    alloc: Global,
+    words: &[String],
+    host: &mut H,
+) -> Result<(), Stop>
     ensures { Obeys LIMIT (map string_bytes words.now) (H.world host.old) (H.world host.new) result }
 {
     let Some((input, text, output)) = read_words(words) else {
         return Err(Stop::Fault(Fault::NotYet));
     };
     match read_filters(alloc, text) {
-        Ok(filters) => run_command(alloc, host, &filters, input, output),
+        Ok(kinds) => run_command(rt, alloc, host, &kinds, input, output),
         Err(stop) => Err(stop),
     }
 }
 
 /// Obeys the words, and reports.
-fn act<H: Host>(alloc: Global, words: &[String], host: &mut H) -> u8
+fn act<R: Threads + Sync, H: Host>(rt: &R, alloc: Global, words: &[String], host: &mut H) -> u8
     ensures { Acts LIMIT (map string_bytes words.now) (H.world host.old) (H.world host.new) result }
 {
-    let outcome = obey(alloc, words, host);
+    let outcome = obey(rt, alloc, words, host);
     report(host, outcome)
 }
 
 /// Runs the command that the words name, and answers the program's status: 0 where all was done, 3 where the graph text
-/// has no reading, 10 where it passes a limit, 11 where an input was not opened or an output not created, 12 and 13
-/// where a read or a write failed, 14 for want of memory, and 15 where the words, the graph or the input are outside of
-/// what the command can do today. After any status but 0 one line was said.
+/// has no reading, 4 where a filter or its arguments are refused, 7 where the filters have no common format, 8 where a
+/// filter can't be made ready, 10 where the text passes a limit, 11 where an input was not opened or an output not
+/// created, 12 and 13 where a read or a write failed, 14 for want of memory, and 15 where the words, the graph or the
+/// input are outside of what the command can do today. After any status but 0 one line was said.
 pub fn avgraph<R: Threads + Sync, H: Host, G: Gate>(
-    _rt: &R,
+    rt: &R,
     alloc: Global,
     words: &[String],
     host: &mut H,
@@ -78,30 +83,32 @@ pub fn avgraph<R: Threads + Sync, H: Host, G: Gate>(
     ensures refused { (fault : Fault) → IsRefused (map string_bytes words.now) fault → Refuses (H.world host.old) (H.world host.new) fault result }
     ensures at_once { (fault : Fault) → IsRefusedAtOnce (map string_bytes words.now) fault
         → Reports (H.world host.old) (H.world host.new) (Err (Stop.Fault fault)) result }
-    // A status of 3 or 10 names a fault that stands, and a status of 0 has a request.
-    ensures stands { (result ≡ 3) ⊎ (result ≡ 10) → (fault : Fault) × IsRefused (map string_bytes words.now) fault
+    // A status of 3, 4 or 10 names a fault that stands, and a status of 0 has a request.
+    ensures stands { (result ≡ 3) ⊎ ((result ≡ 4) ⊎ (result ≡ 10)) → (fault : Fault) × IsRefused (map string_bytes words.now) fault
         × Reports (H.world host.old) (H.world host.new) (Err (Stop.Fault fault)) result }
     ensures asked { result ≡ 0 → (request : Request) × IsRequest (map string_bytes words.now) request }
 
     // The output holds exactly the answer, and nothing is left of the input.
     ensures done { result ≡ 0 → (request : Request) → IsRequest (map string_bytes words.now) request →
-        ForSome ((H.world host.old).held request.input) (Done LIMIT request.filters (H.world host.old) (H.world host.new) request.output) }
-    ensures not_yet { result ≡ 15 → (request : Request) → IsRequest (map string_bytes words.now) request →
-        ForSome ((H.world host.old).held request.input) (IsNotYet LIMIT request.filters) }
+        ForSome ((H.world host.old).held request.input) (Done LIMIT request.calls (H.world host.old) (H.world host.new) request.output) }
+    // A status of 7, 8 or 15 names a fault that stands in the input.
+    ensures names { (result ≡ 7) ⊎ ((result ≡ 8) ⊎ (result ≡ 15)) → (request : Request) → IsRequest (map string_bytes words.now) request →
+        ForSome ((H.world host.old).held request.input) (Names LIMIT request.calls (H.world host.old) (H.world host.new) result) }
     ensures complete { IsQuiet (H.world host.old).faults (H.world host.new).faults → (request : Request) → IsRequest (map string_bytes words.now) request →
-        ForSome ((H.world host.old).held request.input) (Completes LIMIT request.filters result) }
+        ForSome ((H.world host.old).held request.input) (Completes LIMIT request.calls result) }
 
     // A status of 11, 12 or 13 comes exactly where its count rose.
     ensures cause { HasCause (H.world host.old).faults (H.world host.new).faults result }
 
     // Nothing but the output changes, and it holds a beginning of the answer.
     ensures kept { (request : Request) → IsRequest (map string_bytes words.now) request →
-        Keeps request.filters (H.world host.old) (H.world host.new) request.input request.output }
-    ensures header_first { (request : Request) → IsRequest (map string_bytes words.now) request →
-        ForSome ((H.world host.old).held request.input) (λ bytes. ¬ BeginsHeader bytes → (H.world host.new).outputs ≡ (H.world host.old).outputs) }
+        Keeps request.calls (H.world host.old) (H.world host.new) request.input request.output }
+    // No output is created before the input's header was read and the filters are ready for its pictures.
+    ensures ready_first { (request : Request) → IsRequest (map string_bytes words.now) request →
+        ForSome ((H.world host.old).held request.input) (λ bytes. ¬ IsReadyFor request.calls bytes → (H.world host.new).outputs ≡ (H.world host.old).outputs) }
 
     ensures silent { result ≡ 0 → (H.world host.new).said ≡ (H.world host.old).said }
     ensures said { result ≢ 0 → SaysStatus (H.world host.old) (H.world host.new) result }
 {
-    act(alloc, words, host)
+    act(rt, alloc, words, host)
 }

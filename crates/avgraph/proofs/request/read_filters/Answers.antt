@@ -4,8 +4,9 @@ use Rattle.av_text.specs.declared.fault.TextFault.{TextFault}
 use Rattle.av_text.proofs.ArgLemmas.{fault_found}
 use Rattle.graph_text.proofs.GraphLemmas.{GraphFaultAt}
 use Rattle.avgraph.specs.declared.fault.Fault.TheVariants as Fault
-use Rattle.avgraph.specs.Requests.{RefusesText, NoReading, TooMany, StopsText}
-use Rattle.avgraph.proofs.RequestLemmas.{calls_stop}
+use Rattle.avgraph.specs.Requests.{RefusesText, TooMany, NoReading, BadCalls, StopsCalls, StopsText}
+use Rattle.avgraph.proofs.ArgCountLemmas.{few_args}
+use Rattle.avgraph.proofs.RequestLemmas.{calls_stop, says_kinds}
 use Rattle.avgraph.proofs.request.read_filters.Goals as goal
 
 pub returns-in-Err-Fault-clause-stop : goal.returns-in-Err-Fault-clause-stop
@@ -16,10 +17,18 @@ returns-in-Err-Fault-clause-stop c =
 
 pub returns-then-calls-gt-FILTERS_MAX-clause-stop : goal.returns-then-calls-gt-FILTERS_MAX-clause-stop
 returns-then-calls-gt-FILTERS_MAX-clause-stop c =
-    rw c.limit-then-calls-gt-FILTERS_MAX.ensures (TooMany (omega arith) c.in-Ok.graph.calls c.in-Ok.ensures.graph (let many = c.if-calls-gt-FILTERS_MAX.true in omega (arith, ap length c.as_slice-calls.ensures)) refl)
+    rw c.limit-then-calls-gt-FILTERS_MAX.ensures
+    (BadCalls (omega arith) c.in-Ok.graph.calls c.in-Ok.ensures.graph (TooMany (let many = c.if-calls-gt-FILTERS_MAX.true in omega (arith, ap length c.as_slice-calls.ensures)) refl))
+
+pub chain_of-requires-clause-args : goal.chain_of-requires-clause-args
+chain_of-requires-clause-args c = rw c.as_slice-calls.ensures (few_args c.args.text.now c.in-Ok.graph.calls c.in-Ok.ensures.graph (omega arith))
+
+pub returns-clause-filters : goal.returns-clause-filters
+returns-clause-filters c =
+    let few = c.if-calls-gt-FILTERS_MAX.false in
+    says_kinds c.args.text.now c.in-Ok.graph.calls c.as_slice-calls.result.now c.chain_of.result (omega arith) c.in-Ok.ensures.graph (omega (arith, ap length c.as_slice-calls.ensures)) c.as_slice-calls.ensures c.chain_of.ensures.kinds
 
 pub returns-clause-stop : goal.returns-clause-stop
 returns-clause-stop c =
-    let few = c.if-calls-gt-FILTERS_MAX.false in
-    let same = c.as_slice-calls.ensures in
-    IfErr-weaker c.filters_of.result _ (StopsText c.args.text.now) (λ stops h. calls_stop c.args.text.now c.as_slice-calls.result.now stops (omega arith) (rw same c.in-Ok.ensures.graph) few h) c.filters_of.ensures.stop
+    IfErr-weaker c.chain_of.result (StopsCalls c.in-Ok.graph.calls) (StopsText c.args.text.now) (λ stops h. calls_stop c.args.text.now c.in-Ok.graph.calls stops (omega arith) c.in-Ok.ensures.graph h)
+    (rw c.as_slice-calls.ensures at c.chain_of.ensures.stop)

@@ -1,9 +1,11 @@
-use Rattle.std.proofs.Common.{refl, ap, sym, ◌∙◌}
+use Rattle.std.proofs.Common.{◌≡◌, ℤ, pos, ◌+ℤ◌, refl, ap, sym, ◌∙◌, arith}
+use Rattle.std.proofs.lemmas.Int.{ints}
+use Rattle.avgraph.specs.Chains.{ChainValue, passed}
 use Rattle.avgraph.specs.Reading.{Reading}
 use Rattle.avgraph.specs.Writing.{Writing}
 use Rattle.avgraph.specs.declared.stages.Progress.{Progress}
 use Rattle.avgraph.specs.declared.stages.Progress.TheVariants.{Started}
-use Rattle.avgraph.proofs.RunLemmas.{SoFar-none, step, same_shape, next_refused, pass_refused, write_refused, finished}
+use Rattle.avgraph.proofs.RunLemmas.{SoFar-none, step, next_refused, pass_refused, write_refused, finished}
 use Rattle.avgraph.proofs.run.pass_all.Goals as goal
 
 pub loop-frame-init : goal.loop-frame-init
@@ -11,51 +13,75 @@ loop-frame-init g c =
     let w = g.H.Host.world c.args.host.now in
     let reader = c.args.reader.now in
     let writer = c.args.writer.now in
+    let chain = c.args.chain.now in
+    let now : chain.next ≡ pos reader.frames = c.requires.next ∙ ap pos (sym c.requires.first) in
     record {
       id = refl;
       stage = c.requires.headed;
       writer = refl;
+      chain = ap (λ (n : ℤ). record chain { next = n }) now;
       faults = refl;
-      so_far = rw c.requires.first (SoFar-none writer.shape c.args.filters.now reader.room w reader.id writer.id);
+      so_far = rw c.requires.first (SoFar-none chain.shape chain.readies reader.room w reader.id writer.id);
     }
+
+pub pass-requires-clause-shape : goal.pass-requires-clause-shape
+pass-requires-clause-shape g c = λ κs lives.
+    let i = c.loop-frame.invariant in
+    let gives = (rw c.in-Ok-Some.field-0-is at c.in-Ok-Some.ensures.gives) c.args.chain.now.shape i.stage in
+    gives.frame.shape_is ∙ sym (ap (λ (v : ChainValue). v.shape) i.chain)
+
+pub pass-requires-clause-next : goal.pass-requires-clause-next
+pass-requires-clause-next g c =
+    let i = c.loop-frame.invariant in
+    let gives = (rw c.in-Ok-Some.field-0-is at c.in-Ok-Some.ensures.gives) c.args.chain.now.shape i.stage in
+    omega (arith, ints, ap (λ (v : ChainValue). v.next) i.chain, gives.frame.pts)
 
 pub frame-requires-clause-shape : goal.frame-requires-clause-shape
 frame-requires-clause-shape g c =
     let i = c.loop-frame.invariant in
-    let gives = (rw c.in-Ok-Some.field-0-is at c.in-Ok-Some.ensures.gives) c.args.writer.now.shape i.stage in
-    same_shape c.args.filters.now c.loop-frame.reader c.args.reader.now c.args.writer.now i.so_far gives c.in-Ok.ensures i.writer
+    c.in-Ok.ensures.shape ∙ (ap (λ (v : ChainValue). v.end) i.chain ∙ (sym c.requires.end ∙ sym (ap (λ (v : Writing). v.shape) i.writer)))
 
 pub loop-frame-preserved : goal.loop-frame-preserved
 loop-frame-preserved g c =
     let i = c.loop-frame.invariant in
-    let gives = (rw c.in-Ok-Some.field-0-is at c.in-Ok-Some.ensures.gives) c.args.writer.now.shape i.stage in
+    let init = c.args.chain.now in
+    let gives = (rw c.in-Ok-Some.field-0-is at c.in-Ok-Some.ensures.gives) init.shape i.stage in
     let writes = c.in-Ok-frame.ensures.writes in
+    let frames = ap (λ (r : Reading). r.frames) gives.after_is in
+    let pts = gives.frame.pts in
     record {
       id = ap (λ (r : Reading). r.id) gives.after_is ∙ i.id;
       stage = ap (λ (r : Reading). r.stage) gives.after_is ∙ i.stage;
       writer = writes.1 ∙ (ap (λ (w : Writing). record w { progress = Started }) i.writer ∙ ap (λ (p : Progress). record c.args.writer.now { progress = p }) (sym c.requires.started));
+      chain = c.in-Ok.ensures.after ∙ (ap (λ (v : ChainValue). record v { next = c.in-Ok-Some.frame.pts +ℤ pos 1 }) i.chain
+          ∙ ap (λ (n : ℤ). record init { next = n }) (let e : c.in-Ok-Some.frame.pts +ℤ pos 1 ≡ pos c.next.new.self.frames = omega (arith, ints, pts, frames) in e));
       faults = c.in-Ok-frame.ensures.faults ∙ (c.in-Ok-Some.ensures.faults ∙ i.faults);
-      so_far = step c.args.filters.now c.loop-frame.reader c.args.reader.now c.args.writer.now i.so_far gives c.in-Ok.ensures i.writer writes.0;
+      so_far = step init.shape init.readies c.loop-frame.reader c.args.reader.now c.args.writer.now i.so_far gives (c.in-Ok.ensures.passed ∙ ap (λ (v : ChainValue). passed v.readies c.in-Ok-Some.frame) i.chain) i.writer writes.0;
     }
 
 pub returns-in-Err-clause-runs : goal.returns-in-Err-clause-runs
 returns-in-Err-clause-runs g c =
     let i = c.loop-frame.invariant in
-    rw c.stopped_reading.ensures (next_refused c.args.filters.now c.loop-frame.reader c.args.reader.now c.args.writer.now i.so_far _ _ c.in-Err.error i.id (c.in-Err.ensures.gives c.args.writer.now.shape i.stage))
+    let init = c.args.chain.now in
+    rw c.stopped_reading.ensures (next_refused init.shape init.readies c.loop-frame.reader c.args.reader.now c.args.writer.now i.so_far _ _ c.in-Err.error i.id (c.in-Err.ensures.gives init.shape i.stage))
 
 pub returns-in-Err-pass-clause-runs : goal.returns-in-Err-pass-clause-runs
 returns-in-Err-pass-clause-runs g c =
     let i = c.loop-frame.invariant in
-    pass_refused c.args.filters.now c.loop-frame.reader c.args.reader.now c.args.writer.now i.so_far i.id ((rw c.in-Ok-Some.field-0-is at c.in-Ok-Some.ensures.gives) c.args.writer.now.shape i.stage)
+    let init = c.args.chain.now in
+    pass_refused init.shape init.readies c.loop-frame.reader c.args.reader.now c.args.writer.now i.so_far i.id ((rw c.in-Ok-Some.field-0-is at c.in-Ok-Some.ensures.gives) init.shape i.stage)
 
 pub returns-in-Err-frame-clause-runs : goal.returns-in-Err-frame-clause-runs
 returns-in-Err-frame-clause-runs g c =
     let i = c.loop-frame.invariant in
-    let gives = (rw c.in-Ok-Some.field-0-is at c.in-Ok-Some.ensures.gives) c.args.writer.now.shape i.stage in
-    rw c.stopped_writing.ensures (write_refused c.args.filters.now c.loop-frame.reader c.args.reader.now c.args.writer.now i.so_far c.in-Err-frame.error i.id gives c.in-Ok.ensures i.writer c.in-Err-frame.ensures.writes.0)
+    let init = c.args.chain.now in
+    let gives = (rw c.in-Ok-Some.field-0-is at c.in-Ok-Some.ensures.gives) init.shape i.stage in
+    rw c.stopped_writing.ensures
+    (write_refused init.shape init.readies c.loop-frame.reader c.args.reader.now c.args.writer.now i.so_far c.in-Err-frame.error i.id gives (c.in-Ok.ensures.passed ∙ ap (λ (v : ChainValue). passed v.readies c.in-Ok-Some.frame) i.chain) i.writer c.in-Err-frame.ensures.writes.0)
 
 pub returns-in-Ok-finish-clause-runs : goal.returns-in-Ok-finish-clause-runs
 returns-in-Ok-finish-clause-runs g c =
     let i = c.loop-frame.invariant in
-    let gives = (rw c.in-Ok-None.field-0-is at c.in-Ok-None.ensures.gives) c.args.writer.now.shape i.stage in
-    finished c.args.filters.now c.loop-frame.reader c.args.reader.now c.args.writer.now i.so_far i.id gives i.writer c.in-Ok-finish.ensures.writes.0
+    let init = c.args.chain.now in
+    let gives = (rw c.in-Ok-None.field-0-is at c.in-Ok-None.ensures.gives) init.shape i.stage in
+    finished init.shape init.readies c.loop-frame.reader c.args.reader.now c.args.writer.now i.so_far i.id gives i.writer c.in-Ok-finish.ensures.writes.0

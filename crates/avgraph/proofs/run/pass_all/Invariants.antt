@@ -1,4 +1,4 @@
-use Rattle.std.proofs.Common.{◌≡◌}
+use Rattle.std.proofs.Common.{◌≡◌, pos}
 use Rattle.avgraph.specs.declared.stages.Stage.TheVariants.{Headed}
 use Rattle.avgraph.proofs.RunLemmas.{SoFar}
 use Rattle.avgraph.proofs.run.pass_all.Given as goal
@@ -6,10 +6,11 @@ use Rattle.avgraph.proofs.run.pass_all.Given as goal
 abbrev pub invariant-loop-frame : goal.invariant-loop-frame
 invariant-loop-frame g l = record {
   id : l.reader.id ≡ l.initial.reader.id;
-  stage : l.reader.stage ≡ Headed l.initial.writer.shape;
+  stage : l.reader.stage ≡ Headed l.initial.chain.shape;
   writer : l.writer ≡ l.initial.writer;
+  chain : l.chain ≡ record l.initial.chain { next = pos l.reader.frames };
   faults : (g.H.Host.world l.host).faults ≡ (g.H.Host.world l.initial.host).faults;
-  so_far : SoFar l.initial.writer.shape l.filters l.initial.reader.room (g.H.Host.world l.initial.host) (g.H.Host.world l.host) l.reader.id l.initial.writer.id l.reader.room l.reader.frames;
+  so_far : SoFar l.initial.chain.shape l.initial.chain.readies l.initial.reader.room (g.H.Host.world l.initial.host) (g.H.Host.world l.host) l.reader.id l.initial.writer.id l.reader.room l.reader.frames;
 }
 
 abbrev pub decreases-loop-frame : goal.decreases-loop-frame

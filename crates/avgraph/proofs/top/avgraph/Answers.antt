@@ -15,22 +15,22 @@ pub returns-clause-asked : goal.returns-clause-asked
 returns-clause-asked g c = let a = c.act.ensures in headline.asked LIMIT _ a.outcome _ a.between _ _ a.obeys a.reports
 
 pub returns-clause-done : goal.returns-clause-done
-returns-clause-done g c s r is = let a = c.act.ensures in headline.done LIMIT r.filters _ a.between _ r.input r.output _ a.outcome (a.obeys.requests r is) a.reports s
+returns-clause-done g c s r is = let a = c.act.ensures in headline.done LIMIT r.calls _ a.between _ r.input r.output _ a.outcome (a.obeys.requests r is) a.reports s
 
-pub returns-clause-not_yet : goal.returns-clause-not_yet
-returns-clause-not_yet g c s r is = let a = c.act.ensures in headline.not_yet LIMIT r.filters _ a.between _ r.input r.output _ a.outcome (a.obeys.requests r is) a.reports s
+pub returns-clause-names : goal.returns-clause-names
+returns-clause-names g c s r is = let a = c.act.ensures in headline.names LIMIT r.calls _ a.between _ r.input r.output _ a.outcome (a.obeys.requests r is) a.obeys.said a.obeys.counts a.reports s
 
 pub returns-clause-complete : goal.returns-clause-complete
-returns-clause-complete g c quiet r is = let a = c.act.ensures in headline.complete LIMIT r.filters _ a.between _ r.input r.output _ a.outcome (a.obeys.requests r is) a.obeys.counts a.reports quiet
+returns-clause-complete g c quiet r is = let a = c.act.ensures in headline.complete LIMIT r.calls _ a.between _ r.input r.output _ a.outcome (a.obeys.requests r is) a.obeys.counts a.reports quiet
 
 pub returns-clause-cause : goal.returns-clause-cause
 returns-clause-cause g c = let a = c.act.ensures in headline.has_cause LIMIT _ a.outcome _ a.between _ _ a.obeys a.reports
 
 pub returns-clause-kept : goal.returns-clause-kept
-returns-clause-kept g c r is = let a = c.act.ensures in headline.kept LIMIT r.filters a.outcome _ a.between _ r.input r.output _ (a.obeys.requests r is) a.reports
+returns-clause-kept g c r is = let a = c.act.ensures in headline.kept LIMIT r.calls a.outcome _ a.between _ r.input r.output _ (a.obeys.requests r is) a.reports
 
-pub returns-clause-header_first : goal.returns-clause-header_first
-returns-clause-header_first g c r is = let a = c.act.ensures in headline.header_first LIMIT r.filters a.outcome _ a.between _ r.input r.output _ (a.obeys.requests r is) a.reports
+pub returns-clause-ready_first : goal.returns-clause-ready_first
+returns-clause-ready_first g c r is = let a = c.act.ensures in headline.ready_first LIMIT r.calls a.outcome _ a.between _ r.input r.output _ (a.obeys.requests r is) a.reports
 
 pub returns-clause-silent : goal.returns-clause-silent
 returns-clause-silent g c = let a = c.act.ensures in headline.silent LIMIT _ a.outcome _ a.between _ _ a.obeys a.reports
