@@ -12,4 +12,6 @@ pub use kind::Kind;
 pub use ready::{Ready, Settings};
 
 #[cfg(test)]
+mod instance_tests;
+#[cfg(test)]
 mod tests;

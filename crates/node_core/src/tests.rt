@@ -14,7 +14,7 @@ use std::process::Abort;
 use std::test::Fail;
 
 /// What is read of the first call of a text.
-fn read(rt: &impl Abort, alloc: Global, text: &str) -> Result<Kind, OptionError> {
+pub(crate) fn read(rt: &impl Abort, alloc: Global, text: &str) -> Result<Kind, OptionError> {
     assert!(rt; text.len() < 1_000);
     let Ok(text) = parse(alloc, text) else {
         return Err(OptionError::NoMemory);
@@ -104,7 +104,7 @@ fn sized(width: u32, height: u32) -> Shape
 }
 
 /// One of these.
-fn alone<T: Drop>(alloc: Global, item: T) -> Result<List<T>, NoMemory>
+pub(crate) fn alone<T: Drop>(alloc: Global, item: T) -> Result<List<T>, NoMemory>
     ensures { IfOk result (λ items. items ≡ item ∷ []) }
 {
     let mut items = Vec::new(alloc);
