@@ -24,3 +24,4 @@ mod WordValueLemmas
 mod WordCheckLemmas
 mod CommandPartLemmas
 mod WordLawLemmas
+mod AnswerLaws

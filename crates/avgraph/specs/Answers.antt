@@ -92,3 +92,9 @@ pub data IsFileFault (limit : ℕ) (calls : List FilterCall) (bytes : List ℕ) 
   BadShape : (s : Shape) → HasHead limit bytes s → RefusesShape calls s fault → IsFileFault limit calls bytes fault
   Damaged : (s : Shape) (readies : List Ready) (t : Shape) → HasHead limit bytes s → AreReady calls s readies t
       → ((out : List ℕ) → ¬ Answers limit calls bytes out) → fault ≡ NotYet → IsFileFault limit calls bytes fault
+
+-- a file has one answer for a chain of calls at most, or one fault, and never both
+pub record AnswersAreOne : Type 0 where
+  pub one : (limit : ℕ) (calls : List FilterCall) (bytes out other : List ℕ) → Answers limit calls bytes out → Answers limit calls bytes other → out ≡ other
+  pub not_both : (limit : ℕ) (calls : List FilterCall) (bytes out : List ℕ) (fault : Fault) → Answers limit calls bytes out → ¬ IsFileFault limit calls bytes fault
+  pub one_fault : (limit : ℕ) (calls : List FilterCall) (bytes : List ℕ) (f g : Fault) → IsFileFault limit calls bytes f → IsFileFault limit calls bytes g → f ≡ g

@@ -84,3 +84,9 @@ IsRefused words fault = ((words_of words ≡ None) × (fault ≡ NotYet))
 abbrev pub IsRefusedAtOnce : List (List ℕ) → Fault → Type 0
 IsRefusedAtOnce words fault = ((words_of words ≡ None) × (fault ≡ NotYet))
     ⊎ ((input text output : List ℕ) × (words_of words ≡ Some (input, text, output)) × (65_536 < length text) × (fault ≡ Limit Text 0 65_536))
+
+-- words ask for one thing at most, or are refused for one fault, and never both
+pub record RequestsAreOne : Type 0 where
+  pub one : (words : List (List ℕ)) (r s : Request) → IsRequest words r → IsRequest words s → r ≡ s
+  pub not_both : (words : List (List ℕ)) (r : Request) (fault : Fault) → IsRequest words r → ¬ IsRefused words fault
+  pub one_fault : (words : List (List ℕ)) (f g : Fault) → IsRefused words f → IsRefused words g → f ≡ g

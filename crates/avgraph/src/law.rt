@@ -1,11 +1,12 @@
-//! The laws of files and of words: what stands for frames is read as these frames, and in no other way, and words say one
-//! command or have one fault.
+//! The laws of files, of words and of commands: what stands for frames is read as these frames, and in no other way; words
+//! say one command or have one fault; and a command has one answer or one fault.
 ghost use Rattle.std.specs.Prelude.{◌≡◌, ◌++◌, ℕ, List};
 ghost use Rattle.av_base.specs.declared.shapes.Shape.{Shape};
 ghost use Rattle.av_frame.specs.Frames.{FrameValue};
 ghost use Rattle.avgraph.specs.HeaderTexts.{IsHeader};
 ghost use Rattle.avgraph.specs.FrameTexts.{AreFramesFrom, frames_text};
-ghost use Rattle.avgraph.specs.Answers.{IsFile, whole_text};
+ghost use Rattle.avgraph.specs.Answers.{IsFile, whole_text, AnswersAreOne};
+ghost use Rattle.avgraph.specs.Requests.{RequestsAreOne};
 ghost use Rattle.avgraph.specs.CommandWords.{WordsSayOneThing};
 
 /// A file has one reading. Its contract is the law; the call does nothing.
@@ -26,4 +27,11 @@ pub fn files_have_one_reading()
 /// Words say one command or have one fault at most, and never both. Its contract is the law; the call does nothing.
 pub fn words_say_one_thing()
     ensures { WordsSayOneThing }
+{}
+
+/// Words ask for one thing at most or are refused for one fault, and for what they ask a file has one answer at most or one
+/// fault; and never both. Its contract is the law; the call does nothing.
+pub fn commands_have_one_answer()
+    ensures requests { RequestsAreOne }
+    ensures answers { AnswersAreOne }
 {}
