@@ -1,5 +1,6 @@
 -- Words say one command or have one fault at most, and never both.
 use Rattle.std.proofs.Common.{◌≡◌, ◌<◌, ◌++◌, ◌⊎◌, ℕ, Bool, true, false, not, zero, suc, List, [], ◌∷◌, Result, Ok, Err, IfOk, Option, Some, None, filter, drop, get_or, refl, sym, ◌∙◌, ap, subst, inl, inr, arith}
+use Rattle.std.specs.Result.{IsErr, IsErrAnd}
 use Rattle.std.specs.List.{AllZip, slice_get}
 use Rattle.std.specs.Option.{is_some}
 use Rattle.std.proofs.lemmas.Bool.{false≢true}
@@ -271,6 +272,14 @@ pub fault_given : (line : List Said) (result : Result Command WordError) → IfO
 fault_given line (Ok x) ok found fault is = ok.faultless fault is.has
 fault_given line (Err (error.Fault f)) ok found fault is = same_fault line f fault found is
 fault_given line (Err error.NoMemory) ok found fault is = tt
+
+-- the same where an error was passed on
+pub fault_passed : (line : List Said) (e : WordError) (result : Result Command WordError) → IsErr result × IsErrAnd result (λ d. d ≡ e) → IfFault {X = Unit {0}} (Err e) (IsFirstFault line) → (fault : Fault) → IsFirstFault line fault
+    → Refuses fault result
+fault_passed line e (Ok x) passed found fault is = absurd passed.1
+fault_passed line e (Err (error.Fault f)) passed found fault is =
+    same_fault line f fault (subst (λ (d : WordError). IfFault {X = Unit {0}} (Err d) (IsFirstFault line)) (sym passed.1) found) is
+fault_passed line e (Err error.NoMemory) passed found fault is = tt
 
 -- ---- the last word of a role
 

@@ -3,7 +3,7 @@ use Rattle.avgraph.specs.declared.fault.Fault.TheVariants.{NoGraph, NoOutput}
 use Rattle.avgraph.specs.declared.word_roles.Role.TheVariants.{File}
 use Rattle.avgraph.specs.WordRoles.{Said, line_of}
 use Rattle.avgraph.specs.WordFaults.{IsFirstFault}
-use Rattle.avgraph.proofs.WordLawLemmas.{no_graph_first, no_output_first, is_faultless, same_fault, same_command, none_last, some_last}
+use Rattle.avgraph.proofs.WordLawLemmas.{no_graph_first, no_output_first, is_faultless, same_fault, same_command, fault_passed, none_last, some_last}
 use Rattle.avgraph.proofs.command_words.read_words.Goals as goal
 
 pub returns-in_default-clause-fault : goal.returns-in_default-clause-fault
@@ -51,3 +51,8 @@ pub returns-clause-says : goal.returns-clause-says
 returns-clause-says c command is =
     let e = ap line_of c.as_slice-items.ensures.value ∙ c.in_ok-items.ensures in
     same_command (line_of c.as_slice-items.result.now) c.in_ok-command.command command c.in_ok-command.ensures (rw (← e) at is)
+
+pub returns-in_err-check_items-clause-faulty : goal.returns-in_err-check_items-clause-faulty
+returns-in_err-check_items-clause-faulty c fault is =
+    let e = ap line_of c.as_slice-items.ensures.value ∙ c.in_ok-items.ensures in
+    fault_passed (line_of c.as_slice-items.result.now) c.in_err-check_items.field-0.0 c.from_residual-in_err-check_items.result c.from_residual-in_err-check_items.ensures c.in_err-check_items.ensures.fault fault (rw (← e) at is)
