@@ -13,4 +13,4 @@ mod AtomLaws
 pub mod GrammarLaws
 pub mod TreeLemmas
 mod ParseLemmas
-mod TotalLaws
+pub mod TotalLaws

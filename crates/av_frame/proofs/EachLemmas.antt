@@ -1,5 +1,5 @@
 -- Frames made of the first frame that was offered.
-use Rattle.std.proofs.Common.{◌≡◌, ℕ, ◌<◌, Bool, false, List, [], ◌∷◌, ◌++◌, length, Some, sym, ◌∙◌, ap, arith, refl}
+use Rattle.std.proofs.Common.{◌≡◌, ℕ, zero, suc, ◌+◌, ◌-◌, ◌<◌, Bool, false, List, [], ◌∷◌, ◌++◌, length, Some, sym, ◌∙◌, ap, arith, refl}
 use Rattle.std.specs.Prelude.{slice_get}
 use Rattle.std.proofs.lemmas.List.FromFn.{length-map-range_with_len, get_or-map-range_with_len}
 use Rattle.std.proofs.lemmas.List.{get_or-replicate}
@@ -8,16 +8,19 @@ use Rattle.std.specs.Prelude.{replicate, map}
 use Rattle.av_base.specs.declared.shapes.Shape.{Shape}
 use Rattle.av_frame.specs.Frames.{FrameValue}
 use Rattle.av_frame.specs.Streams.{Stream, after, AllShaped, Lawful, Rises, RisesFrom}
-use Rattle.av_frame.specs.Rules.{row, queue, held, each_stream, SameTimes}
+use Rattle.av_frame.specs.Rules.{later_row, queue, held, each_stream, SameTimes}
 use Rattle.av_frame.specs.StreamLemmas.{after_after}
 
-pub length-row : (f : ℕ → FrameValue → FrameValue) (n : ℕ) (x : FrameValue) → length (row f n x) ≡ n
-length-row f n x = length-map-range_with_len (λ o. f o x) 0 n
+pub length-later : (f : ℕ → FrameValue → FrameValue) (n : ℕ) (x : FrameValue) → 0 < n → length (later_row f n x) + 1 ≡ n
+length-later f n x h = let long = length-map-range_with_len (λ o. f o x) 1 (n - 1) in omega (arith, long)
 
-pub row_at : (f : ℕ → FrameValue → FrameValue) (n : ℕ) (x : FrameValue) (o : ℕ) → o < n → slice_get (row f n x) o ≡ Some (f o x)
-row_at f n x o h =
-    let k : o < length (row f n x) = rw (length-row f n x) h in
-    slice_get-get_or (row f n x) o x k ∙ ap (λ y. Some y) (get_or-map-range_with_len (λ o. f o x) 0 n o o x h (omega arith))
+pub row_at : (f : ℕ → FrameValue → FrameValue) (n : ℕ) (x : FrameValue) (o : ℕ) → o < n → slice_get (f 0 x ∷ later_row f n x) o ≡ Some (f o x)
+row_at f n x zero h = refl
+row_at f n x (suc o) h =
+    let long = length-map-range_with_len (λ o. f o x) 1 (n - 1) in
+    let within : o < n - 1 = omega arith in
+    let k : o < length (later_row f n x) = omega (arith, long) in
+    slice_get-get_or (later_row f n x) o x k ∙ ap (λ y. Some y) (get_or-map-range_with_len (λ o. f o x) 1 (n - 1) o (suc o) x within (omega arith))
 
 -- what is made of the first frame that was offered waits
 pub made_first : (v w : List FrameValue) (f g : FrameValue → FrameValue) (xs : List FrameValue) (x : FrameValue) (d : Bool) (s : Stream)

@@ -4,9 +4,10 @@ use Rattle.std.proofs.lemmas.Bool.Decides.{nat_tests}
 use Rattle.std.specs.Prelude.{if◌then◌else◌}
 use Rattle.std.proofs.lemmas.List.{append-nil}
 use mathlib.Core.Path.{fun_ext}
+use Rattle.av_base.specs.declared.shapes.Shape.{Shape}
 use Rattle.av_frame.specs.Frames.{FrameValue}
-use Rattle.av_frame.specs.Streams.{Stream, Streams, Begins, open_stream, ended_stream, at_pad, after, coming, ending, nothing_more, Rises, RisesFrom, AllRise}
-use Rattle.av_frame.specs.FilterLaws.{Pads, FilterLaws}
+use Rattle.av_frame.specs.Streams.{Stream, Streams, Begins, open_stream, ended_stream, at_pad, after, coming, ending, nothing_more, AllBegin, Rises, RisesFrom, AllRise}
+use Rattle.av_frame.specs.FilterLaws.{Pads, FilterLaws, IsNew}
 use Rattle.av_frame.specs.Histories.{History, no_history, with_frame, offered, finished, given, end_given, joined, all_joined, Stands}
 
 -- a new filter stands for the empty history
@@ -272,3 +273,15 @@ stands_needs p whole rest closes wants over h laws s i k w = (laws.wanted_open i
         both true e f = cc
         both false e f = cc
     not_ended false e = refl
+
+-- where input streams begin others, so do what a new filter gives of them
+pub new_begins : (p : Pads) (rest : Streams → Streams) (accepts : ℕ → FrameValue → Type 0) (pads : Pads) (rule : Streams → Streams) (in_shape out_shape : ℕ → Shape)
+    → IsNew p rest accepts pads rule in_shape out_shape
+    → (s t : Streams) → AllRise p.inputs s → AllRise p.inputs t → AllBegin p.inputs s t → AllBegin p.outputs (rest s) (rest t)
+new_begins p rest accepts pads rule in_shape out_shape new s t r q b o k =
+    let same = new.pads_are in
+    let k' : o < pads.outputs = subst (λ (z : Pads). o < z.outputs) same k in
+    let r' = subst (λ (z : Pads). AllRise z.inputs s) same r in
+    let q' = subst (λ (z : Pads). AllRise z.inputs t) same q in
+    let b' = subst (λ (z : Pads). AllBegin z.inputs s t) same b in
+    rw (new.rest_is s o k', new.rest_is t o k') (new.begins s t r' q' b' o k')

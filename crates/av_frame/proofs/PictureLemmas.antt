@@ -4,6 +4,9 @@ use Rattle.std.specs.List.{range_with_len}
 use Rattle.std.proofs.lemmas.List.{length-set, length-replicate, get_or-replicate, get_or-set_same, get_or-set_other, get_or_default, get_or_past}
 use Rattle.std.proofs.lemmas.List.FromFn.{get_or-map-range_with_len, length-map-range_with_len, map-range_with_len_more}
 use Rattle.std.proofs.lemmas.Bool.{cases_eq, cases_lt}
+use Rattle.std.proofs.lemmas.Simd.{length-put_chunk}
+use Rattle.std.specs.Simd.Lanes.{put_chunk}
+use Rattle.av_frame.proofs.Chunks.{put_chunk_none}
 use Rattle.av_base.specs.declared.shapes.Shape.{Shape}
 use Rattle.av_base.specs.Shapes.{IsLawful, IsVideo, planes_of, columns_of, rows_of}
 use Rattle.av_frame.specs.Rasters.{Raster, IsRaster, row_of, sample_of, blank_raster}
@@ -141,6 +144,27 @@ IsPicture-set_sample shape planes v p r c s x y view is less found put low small
     let width : x.width ≡ (plane_at v.planes p).width = ap (λ (z : Raster). z.width) (sym same ∙ here) in
     IsPicture-set_row shape planes v p r x y (set (row_of x r) c s) view is less found put low (length-set (row_of x r) c s ∙ (long ∙ width))
     (get_or-set_small (row_of x r) c s (λ k. subst (λ (z : Raster). sample_of z r k < 256) same (is.samples p r k)) small)
+
+get_or-put_chunk_small : (at : ℕ) (xs part : List ℕ) → ((k : ℕ) → get_or xs k 0 < 256) → ((k : ℕ) → get_or part k 0 < 256) → (k : ℕ) → get_or (put_chunk at xs part) k 0 < 256
+get_or-put_chunk_small at [] part small bytes k = small k
+get_or-put_chunk_small zero (x ∷ xs) [] small bytes k = subst (λ (z : List ℕ). get_or z k 0 < 256) (sym (put_chunk_none 0 (x ∷ xs))) (small k)
+get_or-put_chunk_small zero (x ∷ xs) (y ∷ ys) small bytes zero = bytes 0
+get_or-put_chunk_small zero (x ∷ xs) (y ∷ ys) small bytes (suc k) = get_or-put_chunk_small zero xs ys (λ j. small (suc j)) (λ j. bytes (suc j)) k
+get_or-put_chunk_small (suc a) (x ∷ xs) part small bytes zero = small 0
+get_or-put_chunk_small (suc a) (x ∷ xs) part small bytes (suc k) = get_or-put_chunk_small a xs part (λ j. small (suc j)) bytes k
+
+pub IsPicture-set_part : (shape : Shape) (planes : List Raster) (v : EditValue) (p r c : ℕ) (part : List ℕ) (x y : Raster) → record { shape = shape; planes = planes } ≡ v → IsPicture shape planes
+    → p < planes_of v.shape → x ≡ get_or planes p x → y ≡ record x { rows = set x.rows r (put_chunk c (row_of x r) part) } → r < (plane_at v.planes p).height → ((k : ℕ) → get_or part k 0 < 256) → IsPicture shape (set planes p y)
+IsPicture-set_part shape planes v p r c part x y view is less found put low small =
+    let count = ap (λ (e : EditValue). planes_of e.shape) view in
+    let within : p < planes_of shape = omega arith in
+    let here = ap (λ (e : EditValue). plane_at e.planes p) view in
+    let same : plane_at planes p ≡ x = get_or_default planes p (blank_raster 0 0) x (let many = is.sizes.count in omega arith) ∙ sym found in
+    let height = ap (λ (z : Raster). z.height) here in
+    let long : length (row_of x r) ≡ x.width = subst (λ (z : Raster). length (row_of z r) ≡ z.width) same ((is.sizes.rows p within).row_long r (omega arith)) in
+    let width : x.width ≡ (plane_at v.planes p).width = ap (λ (z : Raster). z.width) (sym same ∙ here) in
+    IsPicture-set_row shape planes v p r x y (put_chunk c (row_of x r) part) view is less found put low (length-put_chunk c (row_of x r) part ∙ (long ∙ width))
+    (get_or-put_chunk_small c (row_of x r) part (λ k. subst (λ (z : Raster). sample_of z r k < 256) same (is.samples p r k)) small)
 
 -- one more blank plane
 pub blank_more : (shape : Shape) (k w h : ℕ) (x : Raster) (planes new : List Raster) → new ≡ planes ++ x ∷ [] → planes ≡ map (λ (p : ℕ). blank_raster (columns_of shape p) (rows_of shape p)) (range_with_len 0 k)

@@ -1,11 +1,11 @@
 -- Queues seen as lists of frames by `f`, with one changed.
-use Rattle.std.proofs.Common.{◌≡◌, ◌≢◌, ℕ, ◌+◌, ◌<◌, ◌≤◌, Bool, true, false, ◌&&◌, List, [], ◌∷◌, ◌++◌, map, length, get_or, set, take, Option, Some, None, sym, ◌∙◌, ap, refl, arith, get_or-set_same, get_or-set_other}
+use Rattle.std.proofs.Common.{◌≡◌, ◌≢◌, ℕ, zero, suc, ◌+◌, ◌<◌, ◌≤◌, Bool, true, false, ◌&&◌, List, [], ◌∷◌, ◌++◌, map, length, get_or, set, take, Option, Some, None, sym, ◌∙◌, ap, refl, arith, get_or-set_same, get_or-set_other}
 use Rattle.std.specs.Prelude.{IfSome, IfNone, option_to_list, slice_get}
 use Rattle.std.specs.List.{list_all}
 use Rattle.std.proofs.Common.{⊎_elim}
 use Rattle.std.proofs.lemmas.List.{set-get_or, map-set, get_or-map, length-map, length_push, take_at, take-take, take-set, take_more, take_more_set, get_or_push, get_or-take}
 use Rattle.std.proofs.lemmas.List.Folds.{list_all-append}
-use Rattle.std.proofs.lemmas.Option.{get_or_from_slice_get}
+use Rattle.std.proofs.lemmas.Option.{get_or_from_slice_get, same_Some}
 use Rattle.std.proofs.lemmas.Bool.{cases_eq}
 use Rattle.av_frame.specs.Frames.{FrameValue}
 use Rattle.av_frame.specs.Rules.{queue}
@@ -75,33 +75,47 @@ last_is less more all x y e f g =
     let k : length less < length more = omega arith in
     sym (get_or_push less x x (length less) refl) ∙ (ap (λ zs. get_or zs (length less) x) (sym e ∙ f) ∙ (get_or-take (length more) all (length less) x k ∙ get_or_from_slice_get all (length less) y x g))
 
-pub pushed_on : {X : Type 0} (f : X → List FrameValue) (old qs : List X) (q new : X) (less more all : List FrameValue) (x : FrameValue)
-    → length less < length qs → q ≡ get_or qs (length less) q → f new ≡ f q ++ x ∷ []
+-- one of the later frames was pushed, at its place behind the first one
+pub pushed_on : (first : FrameValue) (old now next : List (List FrameValue)) (less more all : List FrameValue) (x : FrameValue)
     → more ≡ less ++ x ∷ [] → more ≡ take (length more) all
-    → ((o : ℕ) → o < length more → queue (map f qs) o ≡ queue (map f old) o)
-    → ((o : ℕ) (y : FrameValue) → length more ≤ o → slice_get all o ≡ Some y → queue (map f qs) o ≡ queue (map f old) o ++ y ∷ [])
-    → (o : ℕ) (y : FrameValue) → length less ≤ o → slice_get all o ≡ Some y → queue (map f (set qs (length less) new)) o ≡ queue (map f old) o ++ y ∷ []
-pushed_on f old qs q new less more all x h e p m fr below rest o y k g =
+    → queue next (length less + 1) ≡ queue now (length less + 1) ++ x ∷ []
+    → ((j : ℕ) → j ≢ length less + 1 → queue next j ≡ queue now j)
+    → ((o : ℕ) → o < length more + 1 → queue now o ≡ queue old o)
+    → ((o : ℕ) (y : FrameValue) → length more + 1 ≤ o → slice_get (first ∷ all) o ≡ Some y → queue now o ≡ queue old o ++ y ∷ [])
+    → (o : ℕ) (y : FrameValue) → length less + 1 ≤ o → slice_get (first ∷ all) o ≡ Some y → queue next o ≡ queue old o ++ y ∷ []
+pushed_on first old now next less more all x m fr here others below rest o y k g =
     let n : length more ≡ length less + 1 = ap length m ∙ length_push less x in
     ⊎_elim
-    (λ (s : o ≡ length less).
-    let g' : slice_get all (length less) ≡ Some y = rw s at g in
-    let t : length less < length more = omega arith in
-    rw (s, ← last_is less more all x y m fr g') (pushed f qs q new (length less) x h e p ∙ ap (λ ys. ys ++ x ∷ []) (below (length less) t)))
-    (λ (s : o ≢ length less).
-    let t : length more ≤ o = omega arith in
-    queue_other f qs new (length less) o s ∙ rest o y t g)
-    (cases_eq o (length less))
+    (λ (s : o ≡ length less + 1).
+    let s' : o ≡ suc (length less) = omega arith in
+    let g' : slice_get all (length less) ≡ Some y = rw s' at g in
+    let t : length less + 1 < length more + 1 = omega arith in
+    rw (s, ← last_is less more all x y m fr g') (here ∙ ap (λ ys. ys ++ x ∷ []) (below (length less + 1) t)))
+    (λ (s : o ≢ length less + 1).
+    let t : length more + 1 ≤ o = omega arith in
+    others o s ∙ rest o y t g)
+    (cases_eq o (length less + 1))
 
-pub below_on : {X : Type 0} (f : X → List FrameValue) (old qs : List X) (new : X) (less more : List FrameValue) (x : FrameValue)
+pub below_on : (old now next : List (List FrameValue)) (less more : List FrameValue) (x : FrameValue)
     → more ≡ less ++ x ∷ []
-    → ((o : ℕ) → o < length more → queue (map f qs) o ≡ queue (map f old) o)
-    → (o : ℕ) → o < length less → queue (map f (set qs (length less) new)) o ≡ queue (map f old) o
-below_on f old qs new less more x m below o h =
+    → ((j : ℕ) → j ≢ length less + 1 → queue next j ≡ queue now j)
+    → ((o : ℕ) → o < length more + 1 → queue now o ≡ queue old o)
+    → (o : ℕ) → o < length less + 1 → queue next o ≡ queue old o
+below_on old now next less more x m others below o h =
     let n : length more ≡ length less + 1 = ap length m ∙ length_push less x in
-    let t : o < length more = omega arith in
-    let s : o ≢ length less = omega arith in
-    queue_other f qs new (length less) o s ∙ below o t
+    let t : o < length more + 1 = omega arith in
+    let s : o ≢ length less + 1 = omega arith in
+    others o s ∙ below o t
+
+-- the first frame was pushed, behind all later ones
+pub pushed_first : (first : FrameValue) (old now next : List (List FrameValue)) (all : List FrameValue)
+    → queue next 0 ≡ queue now 0 ++ first ∷ []
+    → ((j : ℕ) → j ≢ 0 → queue next j ≡ queue now j)
+    → queue now 0 ≡ queue old 0
+    → ((o : ℕ) (y : FrameValue) → 1 ≤ o → slice_get (first ∷ all) o ≡ Some y → queue now o ≡ queue old o ++ y ∷ [])
+    → (o : ℕ) (y : FrameValue) → slice_get (first ∷ all) o ≡ Some y → queue next o ≡ queue old o ++ y ∷ []
+pushed_first first old now next all here others same rest zero y g = rw (here, same, same_Some first y g) refl
+pushed_first first old now next all here others same rest (suc o) y g = others (suc o) (omega arith) ∙ rest (suc o) y (omega arith) g
 
 -- what was dry stays dry
 pub pop_dry : (old new : List (List FrameValue)) (at o : ℕ) (r : Option FrameValue)

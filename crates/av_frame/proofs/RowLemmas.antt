@@ -50,15 +50,15 @@ steps_apart s i j w h l = let m = (let next : i + 1 ≤ j = omega arith in mul-l
 
 pub place_apart : (g : Geometry) (n r k : ℕ) → Fitted g n → r < g.height → k < g.height → (k ≡ r → ⊥) → (place g k + g.width ≤ place g r) ⊎ (place g r + g.width ≤ place g k)
 place_apart g n r k f a b ne =
-    let differ = line_apart g.turned g.height r k a b ne in
+    let differ = line_apart g.bottom_up g.height r k a b ne in
     let apart = f.apart in
-    ⊎_elim (λ (l : line g k < line g r). inl (let m = steps_apart g.step (line g k) (line g r) g.width apart l in omega arith))
-    (λ (l : line g r ≤ line g k). inr (let m = steps_apart g.step (line g r) (line g k) g.width apart (let ne2 : line g k ≢ line g r = differ in omega arith) in omega arith))
+    ⊎_elim (λ (l : line g k < line g r). inl (let m = steps_apart g.stride (line g k) (line g r) g.width apart l in omega arith))
+    (λ (l : line g r ≤ line g k). inr (let m = steps_apart g.stride (line g r) (line g k) g.width apart (let ne2 : line g k ≢ line g r = differ in omega arith) in omega arith))
     (cases_lt (line g k) (line g r))
 
 pub place_inside : (g : Geometry) (n r : ℕ) → Fitted g n → r < g.height → place g r + g.width ≤ n
 place_inside g n r f a =
-    let m = mul-le-mul_left g.step (line_below g.turned g.height r a) in
+    let m = mul-le-mul_left g.stride (line_below g.bottom_up g.height r a) in
     let i = f.inside in
     omega arith
 
@@ -142,12 +142,12 @@ last_row_inside s w (suc h) wide some =
 
 -- zeros stand for a blank plane
 pub raster_at-blank : (s w h : ℕ) (bs : List ℕ) → w ≤ s → s ≤ 2 ^ 13 → 0 < h → h ≤ 2 ^ 13 → bs ≡ replicate (s * h) 0
-    → raster_at (record { first = 0; step = s; width = w; height = h; turned = false }) bs ≡ blank_raster w h
+    → raster_at (record { offset = 0; stride = s; width = w; height = h; bottom_up = false }) bs ≡ blank_raster w h
 raster_at-blank s w h bs wide narrow some low zeros =
     let long : length bs ≡ s * h = ap (λ (z : List ℕ). length z) zeros ∙ length-replicate {A = ℕ} (s * h) 0 in
     let area = mul-le-mul_left s low in
     let last = last_row_inside s w h wide some in
-    raster_blank (record { first = 0; step = s; width = w; height = h; turned = false }) bs
+    raster_blank (record { offset = 0; stride = s; width = w; height = h; bottom_up = false }) bs
     (record { apart = wide; some_rows = some; small = omega arith; inside = omega arith })
     (zeros ∙ ap (λ (n : ℕ). replicate n 0) (sym long))
 
@@ -167,3 +167,34 @@ sample_read g bs one r c p n x e read single at low left =
     let h : g.height ≡ x.height = ap (λ (y : Raster). y.height) e in
     let w : g.width ≡ x.width = ap (λ (y : Raster). y.width) e in
     raster_sample_read g bs one r c p n read single at (omega arith) (omega arith) ∙ ap (λ (y : Raster). sample_of y r c) e
+
+-- a row that is read
+pub row_read : (g : Geometry) (bs : List ℕ) (r p : ℕ) (x : Raster) → raster_at g bs ≡ x → p ≡ place g r → r < x.height → chunk p g.width bs ≡ row_of x r
+row_read g bs r p x e at low =
+    let h : g.height ≡ x.height = ap (λ (y : Raster). y.height) e in
+    ap (λ (j : ℕ). chunk j g.width bs) at ∙ (sym (get_or-rows_at g bs r (omega arith)) ∙ ap (λ (y : Raster). row_of y r) e)
+
+-- a part of a row that is written
+pub raster_part : (g : Geometry) (bs bs' part : List ℕ) (r c p : ℕ) (x : Raster) → raster_at g bs ≡ x → bs' ≡ put_chunk (p + c) bs part → p ≡ place g r → Fitted g (length bs) → r < x.height → c + length part ≤ x.width
+    → raster_at g bs' ≡ record x { rows = set x.rows r (put_chunk c (row_of x r) part) }
+raster_part g bs bs' part r c p x e put at f a b =
+    let h : g.height ≡ x.height = ap (λ (y : Raster). y.height) e in
+    let w : g.width ≡ x.width = ap (λ (y : Raster). y.width) e in
+    let old = chunk (place g r) g.width bs in
+    let less : r < g.height = omega arith in
+    let wide : length (put_chunk c old part) ≡ x.width = length-put_chunk c old part ∙ (length-chunk (place g r) g.width bs (place_inside g (length bs) r f less) ∙ w) in
+    let whole : bs' ≡ put_chunk (place g r) bs (put_chunk c old part) =
+    put
+    ∙ (ap (λ (j : ℕ). put_chunk (j + c) bs part) at
+    ∙ sym (put_chunk-chunk bs part (place g r) c g.width (place g r + c) refl (omega arith))) in
+    let here : old ≡ row_of x r = sym (get_or-rows_at g bs r less) ∙ ap (λ (y : Raster). row_of y r) e in
+    raster_row g bs bs' (put_chunk c old part) r (place g r) x e whole refl f a wide ∙ ap (λ (z : List ℕ). record x { rows = set x.rows r (put_chunk c z part) }) here
+
+-- a sample of a column that is read
+pub column_read : (g : Geometry) (bs : List ℕ) (r c v : ℕ) (x : Raster) → raster_at g bs ≡ x → v ≡ get_or bs (place g r + c) 0 → r < x.height → c < x.width → v ≡ sample_of x r c
+column_read g bs r c v x e read low left =
+    let h : g.height ≡ x.height = ap (λ (y : Raster). y.height) e in
+    let w : g.width ≡ x.width = ap (λ (y : Raster). y.width) e in
+    read
+    ∙ (sym (ap (λ (l : List ℕ). get_or l c 0) (get_or-rows_at g bs r (omega arith)) ∙ get_or-chunk (place g r) g.width bs c 0 (omega arith))
+    ∙ ap (λ (y : Raster). sample_of y r c) e)

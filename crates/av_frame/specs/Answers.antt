@@ -1,4 +1,4 @@
--- What a filter answered.
+-- What `give` returned.
 use Rattle.std.specs.Prelude.{Result, Ok, Err, List, [], ◌∷◌}
 use Rattle.av_base.specs.declared.NoMemory.{NoMemory}
 use Rattle.av_frame.specs.Frames.{FrameValue}
@@ -19,14 +19,14 @@ IfGave (Ok Nothing) P = Unit {0}
 IfGave (Ok End) P = Unit {0}
 IfGave (Err e) P = Unit {0}
 
--- where the answer is Nothing, P holds
+-- if the result is Nothing, P holds
 abbrev pub OnNothing : Result Given NoMemory → Type 0 → Type 0
 OnNothing (Ok (Frame x)) P = Unit {0}
 OnNothing (Ok Nothing) P = P
 OnNothing (Ok End) P = Unit {0}
 OnNothing (Err e) P = Unit {0}
 
--- where the answer is End, P holds
+-- if the result is End, P holds
 abbrev pub OnEnd : Result Given NoMemory → Type 0 → Type 0
 OnEnd (Ok (Frame x)) P = Unit {0}
 OnEnd (Ok Nothing) P = Unit {0}

@@ -17,7 +17,7 @@ each_begins f s t b = record {
 
 pub each_rule_laws : (n : ℕ) (made : ℕ → FrameValue → FrameValue) → RuleLaws (one_to n) (each_rule made)
 each_rule_laws n made = record {
-  monotone = λ s t b o h. each_begins (made o) (s 0) (t 0) (b 0 (omega arith));
+  begins = λ s t p q b o h. each_begins (made o) (s 0) (t 0) (b 0 (omega arith));
   ends = λ s e o h. e 0 (omega arith);
 }
 

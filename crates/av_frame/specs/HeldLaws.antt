@@ -6,7 +6,7 @@ use Rattle.av_frame.specs.Frames.{FrameValue}
 use Rattle.av_frame.specs.Streams.{Stream, Streams, ended_stream, at_pad, after, coming, ending}
 use Rattle.av_frame.specs.FilterLaws.{Pads, FilterLaws}
 use Rattle.av_frame.specs.Rules.{RuleLaws, HeldTests, held, all_held, held_rest}
-use Rattle.av_frame.specs.StreamLemmas.{begins_after, held_begins, held_ends, after_after}
+use Rattle.av_frame.specs.StreamLemmas.{held_ends, after_after}
 
 finished_at : (kept : List FrameValue) (d : Bool) (s t : Stream) → d ≡ true → held kept d s ≡ held kept d t
 finished_at kept true s t e = refl
@@ -25,7 +25,6 @@ pub held_laws : (p : Pads) (rule : Streams → Streams) (kept : ℕ → List Fra
     → RuleLaws p rule → HeldTests p rule kept finished waiting closes wants over
     → FilterLaws p (held_rest rule kept finished waiting) closes wants over
 held_laws p rule kept finished waiting closes wants over l t = record {
-  monotone = λ s r q u b o h. begins_after (waiting o) _ _ (l.monotone (all_held kept finished s) (all_held kept finished r) (λ i k. held_begins (kept i) (finished i) (s i) (r i) (b i k)) o h);
   ends = λ s e o h. l.ends (all_held kept finished s) (λ i k. held_ends (kept i) (finished i) (s i) (e i k)) o h;
   settled = λ i k c ins s o h. ap (after (waiting o)) (settled i ins s o h (t.closed_is i k c));
   wanted_open = t.wanted_open;

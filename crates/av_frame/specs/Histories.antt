@@ -1,11 +1,11 @@
--- What was offered to a filter and what it gave, and the histories that a filter stands for.
+-- What was offered to a filter and what it gave, and the histories of a filter.
 use Rattle.std.specs.Prelude.{◌≡◌, ℕ, ◌<◌, if◌then◌else◌, Bool, true, [], ◌∷◌, ◌++◌}
 use Rattle.av_frame.specs.Frames.{FrameValue}
 use Rattle.av_frame.specs.Streams.{Stream, Streams, open_stream, ended_stream, at_pad, after, AllRise}
 use Rattle.av_frame.specs.FilterLaws.{Pads}
 
 -- The stream that was offered on each input, ended where it was finished, and the stream that was given on each output,
--- ended where the answer End came.
+-- ended if End was returned.
 pub record History : Type 0 where
   pub ins : Streams
   pub outs : Streams
@@ -29,19 +29,19 @@ finished h i = record { ins = at_pad h.ins i (ended_stream (h.ins i).frames); ou
 abbrev pub given : History → ℕ → FrameValue → History
 given h o x = record { ins = h.ins; outs = at_pad h.outs o (with_frame (h.outs o) x) }
 
--- then End was answered on output o
+-- then End was returned on output o
 abbrev pub end_given : History → ℕ → History
 end_given h o = record { ins = h.ins; outs = at_pad h.outs o (ended_stream (h.outs o).frames) }
 
--- s, and behind it t where s is open
+-- s, and after it t if s is open
 abbrev pub joined : Stream → Stream → Stream
 joined s t = if s.ended then s else after s.frames t
 
 abbrev pub all_joined : Streams → Streams → Streams
 all_joined s t = λ i. joined (s i) (t i)
 
--- A filter of the function `whole` stands for a history: whatever comes behind what was offered, what is then still to
--- be given makes up, behind what was given, what `whole` gives of all that was offered and comes.
+-- A filter of the function `whole` has a history: whatever comes after what was offered, what was given and then what is
+-- still to be given are together what `whole` gives of all that was offered and comes.
 pub record Stands (p : Pads) (whole rest : Streams → Streams) (closes over : ℕ → Bool) (h : History) : Type 0 where
   pub is : (ins : Streams) → AllRise p.inputs ins → AllRise p.inputs (all_joined h.ins ins) → (o : ℕ) → o < p.outputs → whole (all_joined h.ins ins) o ≡ joined (h.outs o) (rest ins o)
   -- a finished input is closed

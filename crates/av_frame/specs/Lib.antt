@@ -1,6 +1,8 @@
 pub mod Rasters
+pub mod Pages
 pub mod Geometries
 pub mod Frames
+pub mod FrameLaws
 pub mod Sources
 pub mod Streams
 pub mod FilterLaws
@@ -15,6 +17,14 @@ pub mod Words
 pub mod WordLaws
 pub mod Options
 pub mod OptionLaws
+pub mod OptionExistence
 pub mod OneLaws
-pub mod SmallFilters
-pub mod SmallFilterLaws
+pub mod Outcomes
+pub mod Limits
+pub mod Meanings
+pub mod NoOptions
+pub mod RuleSets
+pub mod Readings
+pub mod Plains
+pub mod Pictures
+pub mod Grid

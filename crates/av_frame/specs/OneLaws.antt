@@ -2,15 +2,10 @@
 use Rattle.std.specs.Prelude.{◌≡◌, ℕ, ◌<◌, ◌&&◌, not, if◌then◌else◌, Bool, true, false, List, [], ◌∷◌, ◌++◌, refl}
 use Rattle.std.proofs.Common.{◌∙◌, ap, arith}
 use Rattle.av_frame.specs.Frames.{FrameValue}
-use Rattle.av_frame.specs.Streams.{Stream, Streams, Begins, ended_stream, at_pad, after, coming, Rises}
+use Rattle.av_frame.specs.Streams.{Stream, Streams, ended_stream, at_pad, after, coming}
 use Rattle.av_frame.specs.FilterLaws.{FilterLaws, one_to}
-use Rattle.av_frame.specs.Rules.{StreamLaws, is_empty, waiting_then}
-use Rattle.av_frame.specs.StreamLemmas.{begins_refl, begins_after, after_after, none_is}
-
-one_monotone : (xs : List FrameValue) (d : Bool) (f : Stream → Stream) → StreamLaws f → (s t : Stream) → Rises s.frames → Rises t.frames → Begins s t
-    → Begins (after xs (if d then ended_stream [] else f s)) (after xs (if d then ended_stream [] else f t))
-one_monotone xs true f l s t p q b = begins_refl _
-one_monotone xs false f l s t p q b = begins_after xs (f s) (f t) (l.monotone s t p q b)
+use Rattle.av_frame.specs.Rules.{StreamLaws, RuleLaws, is_empty, waiting_then}
+use Rattle.av_frame.specs.StreamLemmas.{after_after, none_is}
 
 one_ends : (d : Bool) (f : Stream → Stream) → StreamLaws f → (s : Stream) → s.ended ≡ true → (if d then ended_stream [] else f s).ended ≡ true
 one_ends true f l s e = refl
@@ -33,11 +28,17 @@ one_closed : (d e : Bool) → (d && e) ≡ true → d ≡ true
 one_closed true e h = refl
 one_closed false e h = h
 
+-- the laws of such a function, as one on the streams of all inputs
+pub one_rule_laws : (f : Stream → Stream) → StreamLaws f → RuleLaws (one_to 1) (λ ins o. f (ins 0))
+one_rule_laws f l = record {
+  begins = λ s t p q b o h. l.begins (s 0) (t 0) (p 0 (omega arith)) (q 0 (omega arith)) (b 0 (omega arith));
+  ends = λ s e o h. l.ends (s 0) (e 0 (omega arith));
+}
+
 -- the laws of such a filter
 pub one_laws : (xs : List FrameValue) (d : Bool) (f : Stream → Stream) → StreamLaws f
     → FilterLaws (one_to 1) (waiting_then xs d f) (λ i. d) (λ i. not d && is_empty xs) (λ o. d && is_empty xs)
 one_laws xs d f l = record {
-  monotone = λ s t p q b o h. one_monotone xs d f l (s 0) (t 0) (p 0 (omega arith)) (q 0 (omega arith)) (b 0 (omega arith));
   ends = λ s e o h. one_ends d f l (s 0) (e 0 (omega arith));
   settled = λ i h e ins s o k. one_settled xs d f (at_pad ins i s 0) (ins 0) e;
   wanted_open = λ i h e. one_wanted d (is_empty xs) e;

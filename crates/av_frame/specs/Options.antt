@@ -1,5 +1,5 @@
 -- Options of a filter, as its arguments give them (FFmpeg Filters Documentation, "Filtergraph syntax": values, and
--- `key=value` pairs behind them; what is refused is this project's own).
+-- `key=value` pairs after them; what is refused is this project's own).
 use Rattle.std.specs.Prelude.{◌≡◌, ◌≢◌, ◌<◌, ◌≤ℤ◌, ◌||◌, ℕ, ℤ, List, [], ◌∷◌, Option, Some, None, Bool, true, false, not, nat_lt, is_some, take, if◌then◌else◌, codes}
 use Rattle.std.specs.List.{slice_get, list_any}
 use Rattle.av_text.specs.Numbers.{IsWhole}
@@ -14,25 +14,25 @@ has_name arg = is_some arg.name
 abbrev pub any_named : List Arg → Bool
 any_named args = list_any has_name args
 
--- the option that an argument stands for: the one that its name means; without a name that of the argument's own
--- number, unless there is none or the argument comes late, behind one with a name
+-- the option of an argument: the one that its name means; without a name that of the argument's own
+-- number, unless there is none or the argument comes late, after one with a name
 abbrev pub option_for : ℕ → List (List ℕ × ℕ) → Bool → ℕ → Option (List ℕ) → Option ℕ
 option_for count names is_late k (Some name) = word_in names name
 option_for count names is_late k None = if is_late || not (nat_lt k count) then None else Some k
 
--- what argument k, if it stands for no option, is refused for
+-- why argument k is rejected if it has no option
 abbrev pub misplaced : ℕ → Option (List ℕ) → OptionError
 misplaced k (Some name) = UnknownOption k
 misplaced k None = TooManyValues k
 
--- argument k stands for option o, and gives it this text
+-- argument k is for option o, and gives it this text
 pub record Gives (count : ℕ) (names : List (List ℕ × ℕ)) (args : List Arg) (k o : ℕ) (text : List ℕ) : Type 0 where
   pub arg : Arg
   pub is_arg : slice_get args k ≡ Some arg
   pub option : option_for count names (any_named (take k args)) k arg.name ≡ Some o
   pub value : text ≡ arg.value
 
--- what stands against argument k: it stands for no option, or its option doesn't take its text
+-- why argument k is rejected: it has no option, or its option doesn't take its text
 pub data HasFault (count : ℕ) (names : List (List ℕ × ℕ)) (takes : ℕ → List ℕ → Type 0) (args : List Arg) (k : ℕ) : OptionError → Type 0 where
   NoOption : (arg : Arg) → slice_get args k ≡ Some arg → option_for count names (any_named (take k args)) k arg.name ≡ None
       → HasFault count names takes args k (misplaced k arg.name)
@@ -48,7 +48,7 @@ pub record IsFirstFault (count : ℕ) (names : List (List ℕ × ℕ)) (takes : 
   pub has : HasFault count names takes args place e
   pub first : (earlier : ℕ) (f : OptionError) → earlier < place → ¬ HasFault count names takes args earlier f
 
--- the text that an option is given: that of the last argument that stands for it, and none where no argument does
+-- the text that an option is given: that of the last argument for it, and none if no argument is
 pub data IsGiven (count : ℕ) (names : List (List ℕ × ℕ)) (args : List Arg) (o : ℕ) : Option (List ℕ) → Type 0 where
   Last : (k : ℕ) (text : List ℕ) → Gives count names args k o text → ((later : ℕ) (other : List ℕ) → k < later → ¬ Gives count names args later o other)
       → IsGiven count names args o (Some text)

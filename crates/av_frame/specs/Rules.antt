@@ -1,8 +1,8 @@
 -- Forms of filters: what is still to be given by what waits and by a function on streams.
-use Rattle.std.specs.Prelude.{◌≡◌, ℕ, ◌<◌, ◌==◌, ◌⊎◌, if◌then◌else◌, Bool, true, false, List, [], map, length, get_or}
+use Rattle.std.specs.Prelude.{◌≡◌, ℕ, ◌<◌, ◌-◌, ◌==◌, ◌⊎◌, if◌then◌else◌, Bool, true, false, List, [], map, length, get_or}
 use Rattle.std.specs.List.{range_with_len}
 use Rattle.av_frame.specs.Frames.{FrameValue}
-use Rattle.av_frame.specs.Streams.{Stream, Streams, ended_stream, after, Begins, AllBegin, Rises}
+use Rattle.av_frame.specs.Streams.{Stream, Streams, ended_stream, after, Begins, AllBegin, Rises, AllRise}
 use Rattle.av_frame.specs.FilterLaws.{Pads}
 
 abbrev pub is_empty : List FrameValue → Bool
@@ -13,7 +13,7 @@ is_empty xs = length xs == 0
 -- the laws of a function on the streams of all inputs
 pub record RuleLaws (p : Pads) (rule : Streams → Streams) : Type 0 where
   -- where each input's stream begins another, each output's begins the other's
-  pub monotone : (s t : Streams) → AllBegin p.inputs s t → AllBegin p.outputs (rule s) (rule t)
+  pub begins : (s t : Streams) → AllRise p.inputs s → AllRise p.inputs t → AllBegin p.inputs s t → AllBegin p.outputs (rule s) (rule t)
   -- ended inputs give ended outputs
   pub ends : (s : Streams) → ((i : ℕ) → i < p.inputs → (s i).ended ≡ true) → (o : ℕ) → o < p.outputs → (rule s o).ended ≡ true
 
@@ -25,7 +25,7 @@ held kept is_finished s = after kept (if is_finished then ended_stream [] else s
 abbrev pub all_held : (ℕ → List FrameValue) → (ℕ → Bool) → Streams → Streams
 all_held kept is_finished ins = λ i. held (kept i) (is_finished i) (ins i)
 
--- the frames that wait on each output, and behind them what the rule gives of what the inputs have
+-- the frames that wait on each output, and after them what the rule gives of what the inputs have
 abbrev pub held_rest : (Streams → Streams) → (ℕ → List FrameValue) → (ℕ → Bool) → (ℕ → List FrameValue) → Streams → Streams
 held_rest rule kept is_finished waiting ins = λ o. after (waiting o) (rule (all_held kept is_finished ins) o)
 
@@ -45,10 +45,10 @@ pub record HeldTests (p : Pads) (rule : Streams → Streams) (kept : ℕ → Lis
 
 -- the laws of a function on one stream
 pub record StreamLaws (f : Stream → Stream) : Type 0 where
-  pub monotone : (s t : Stream) → Rises s.frames → Rises t.frames → Begins s t → Begins (f s) (f t)
+  pub begins : (s t : Stream) → Rises s.frames → Rises t.frames → Begins s t → Begins (f s) (f t)
   pub ends : (s : Stream) → s.ended ≡ true → (f s).ended ≡ true
 
--- the frames that wait, and behind them what f gives of what comes, or nothing more where the filter is done
+-- the frames that wait, and after them what f gives of what comes, or nothing more if the filter is done
 abbrev pub waiting_then : List FrameValue → Bool → (Stream → Stream) → Streams → Streams
 waiting_then waiting is_done f ins = λ o. after waiting (if is_done then ended_stream [] else f (ins 0))
 
@@ -67,9 +67,9 @@ each_stream f s = record { frames = map f s.frames; ended = s.ended }
 abbrev pub each_rule : (ℕ → FrameValue → FrameValue) → Streams → Streams
 each_rule made ins = λ o. each_stream (made o) (ins 0)
 
--- what is made of a frame, output by output
-abbrev pub row : (ℕ → FrameValue → FrameValue) → ℕ → FrameValue → List FrameValue
-row made outputs x = map (λ o. made o x) (range_with_len 0 outputs)
+-- what is made of a frame for the outputs from 1 on, in order
+abbrev pub later_row : (ℕ → FrameValue → FrameValue) → ℕ → FrameValue → List FrameValue
+later_row made outputs x = map (λ o. made o x) (range_with_len 1 (outputs - 1))
 
 -- what a list of queues has for an output
 abbrev pub queue : List (List FrameValue) → ℕ → List FrameValue

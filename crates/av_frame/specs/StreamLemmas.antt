@@ -1,6 +1,6 @@
 -- Facts about streams on which laws of filters rest.
 use Rattle.std.specs.Prelude.{◌≡◌, ℕ, ◌==◌, if◌then◌else◌, Bool, true, false, List, [], ◌∷◌, ◌++◌, refl}
-use Rattle.std.proofs.Common.{sym, ◌∙◌, ap, append_assoc, arith, eqb-true}
+use Rattle.std.proofs.Common.{sym, append_assoc, arith, eqb-true}
 use Rattle.std.proofs.lemmas.List.{append-nil}
 use mathlib.Core.Path.{fun_ext}
 use Rattle.av_frame.specs.Frames.{FrameValue}
@@ -10,21 +10,11 @@ use Rattle.av_frame.specs.Rules.{is_empty, held}
 pub begins_refl : (s : Stream) → Begins s s
 begins_refl s = record { front = record { rest = []; whole = sym (append-nil s.frames) }; same = λ e. refl }
 
-pub begins_after : (xs : List FrameValue) (s t : Stream) → Begins s t → Begins (after xs s) (after xs t)
-begins_after xs s t b = record {
-  front = record { rest = b.front.rest; whole = ap (λ ys. xs ++ ys) b.front.whole ∙ sym (append_assoc xs s.frames b.front.rest) };
-  same = λ e. ap (after xs) (b.same e);
-}
-
 pub after_after : (xs ys : List FrameValue) (s : Stream) → after (xs ++ ys) s ≡ after xs (after ys s)
 after_after xs ys s = rw append_assoc
 
 pub stream_eq : (xs ys : List FrameValue) (d e : Bool) → xs ≡ ys → d ≡ e → (let s : Stream = record { frames = xs; ended = d } in s) ≡ record { frames = ys; ended = e }
 stream_eq xs ys d e p q = rw (p, q)
-
-pub held_begins : (xs : List FrameValue) (d : Bool) (s t : Stream) → Begins s t → Begins (held xs d s) (held xs d t)
-held_begins xs true s t b = begins_refl _
-held_begins xs false s t b = begins_after xs s t b
 
 pub held_ends : (xs : List FrameValue) (d : Bool) (s : Stream) → s.ended ≡ true → (held xs d s).ended ≡ true
 held_ends xs true s e = refl

@@ -14,7 +14,7 @@ open_stream xs = record { frames = xs; ended = false }
 abbrev pub ended_stream : List FrameValue → Stream
 ended_stream xs = record { frames = xs; ended = true }
 
--- ys is xs with more behind it
+-- ys is xs with more after it
 pub record IsPrefix (xs ys : List FrameValue) : Type 0 where
   pub rest : List FrameValue
   pub whole : ys ≡ xs ++ rest
@@ -39,7 +39,7 @@ AllBegin n s t = (i : ℕ) → i < n → Begins (s i) (t i)
 
 -- ---- what comes and what ends
 
--- the frames xs, and behind them the stream s
+-- the frames xs, and after them the stream s
 abbrev pub after : List FrameValue → Stream → Stream
 after xs s = record { frames = xs ++ s.frames; ended = s.ended }
 
@@ -57,7 +57,7 @@ nothing_more = λ _. open_stream []
 
 -- ---- times and shapes
 
--- the times rise strictly, from behind x on
+-- the times rise strictly, from after x on
 abbrev pub RisesFrom : FrameValue → List FrameValue → Type 0
 RisesFrom x [] = Unit {0}
 RisesFrom x (y ∷ ys) = (x.pts <ℤ y.pts) × RisesFrom y ys

@@ -4,7 +4,7 @@ use Rattle.av_frame.specs.Frames.{FrameValue}
 use Rattle.av_frame.specs.Streams.{Streams, ended_stream, FollowsOn}
 use Rattle.av_frame.specs.Rules.{queue}
 
--- each frame has the shape of the one before it and a later time, from behind x on
+-- each frame has the shape of the one before it and a later time, from after x on
 abbrev pub FollowFrom : FrameValue → List FrameValue → Type 0
 FollowFrom x [] = Unit {0}
 FollowFrom x (y ∷ ys) = FollowsOn x y × FollowFrom y ys

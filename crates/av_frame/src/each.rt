@@ -1,18 +1,18 @@
 //! Filters that make one frame on each output of each frame.
 
-ghost use Rattle.std.specs.Prelude.{◌≡◌, ℕ, ◌<◌, ◌+◌, length, IfOk, IfErr, OnOk, OnErr, ◌∷◌, []};
+ghost use Rattle.std.specs.Prelude.{◌≡◌, ℕ, ◌<◌, ◌+◌, ◌++◌, length, IfOk, IfErr, OnOk, OnErr, ◌∷◌, []};
 ghost use Rattle.std.specs.Thread.{IsSync};
 ghost use Rattle.std.specs.VecDeque.{deque_len, deque_capacity};
 ghost use Rattle.av_base.specs.declared.shapes.Shape.{Shape};
 ghost use Rattle.av_frame.specs.Frames.{FrameValue};
 ghost use Rattle.av_frame.specs.Streams.{Streams};
 ghost use Rattle.av_frame.specs.FilterLaws.{IsSlices, IsNew, one_to};
-ghost use Rattle.av_frame.specs.Rules.{SameTimes, row, queue, each_rule, each_rest};
+ghost use Rattle.av_frame.specs.Rules.{SameTimes, later_row, queue, each_rule, each_rest};
 
 use crate::filter::{Filter, Given, Returned};
 use crate::frame::Frame;
 use crate::queues::Queues;
-use av_base::{List, NoMemory};
+use av_base::NoMemory;
 use std::alloc::Global;
 use std::collections::VecDeque;
 use std::marker::Model;
@@ -32,17 +32,19 @@ pub trait PerFrame {
     /// What is made of a frame on an output: the filter's equations.
     ghost made: { Self → ℕ → FrameValue → FrameValue };
 
-    /// The frames that are made of a frame, one for each output.
+    /// Makes the frames of a frame, one for each output. The result is that of output 0. Those of the outputs from 1 on
+    /// are pushed to `others`, in order.
     ///
     /// # Errors
-    /// Want of memory, with a frame of equal value.
+    /// Out of memory, with a frame of equal value. What was pushed to `others` then counts for nothing.
     fn make<R: Threads + Sync>(
         &mut self,
         rt: &R,
         alloc: Global,
         slices: u32,
         frame: Frame,
-    ) -> Result<List<Frame>, Returned>
+        others: &mut Vec<Frame>,
+    ) -> Result<Frame, Returned>
         requires sync { IsSync R.row }
         requires slices { IsSlices slices }
         requires shape { frame.shape ≡ shape self.old }
@@ -50,7 +52,8 @@ pub trait PerFrame {
         ensures shape { shape self.new ≡ shape self.old }
         ensures out_shape { out_shape self.new ≡ out_shape self.old }
         ensures made { made self.new ≡ made self.old }
-        ensures ok { IfOk result (λ all. all ≡ row (made self.old) (outputs self.old) frame) }
+        ensures first { IfOk result (λ first. first ≡ made self.old 0 frame) }
+        ensures later { OnOk result (others.new.items ≡ others.old.items ++ later_row (made self.old) (outputs self.old) frame) }
         ensures returned { IfErr result (λ e. e.frame ≡ frame) };
 
     /// There is an output.
@@ -99,7 +102,7 @@ impl<P: PerFrame + Drop> Each<P> {
     /// A new filter of one input, which makes frames by the rule.
     ///
     /// # Errors
-    /// Want of memory.
+    /// Out of memory.
     pub fn new(alloc: Global, rule: P, outputs: u32) -> Result<Each<P>, NoMemory>
         requires { P.outputs rule ≡ outputs }
         ensures { IfOk result (λ e. IsNew (⟦<Each<P> as Filter>⟧.pads e) (⟦<Each<P> as Filter>⟧.rest e) (⟦<Each<P> as Filter>⟧.accepts e) (one_to outputs) (each_rule (P.made rule)) (λ _. P.shape rule) (P.out_shape rule)) }
@@ -140,9 +143,10 @@ impl<P: PerFrame> Each<P> {
         let Some(frame) = self.offered.pop_front() else {
             return Ok(());
         };
-        match self.rule.make(rt, alloc, slices, frame) {
-            Ok(row) => {
-                self.waiting.push_row(row.into_vec());
+        let mut others = Vec::new(alloc);
+        match self.rule.make(rt, alloc, slices, frame, &mut others) {
+            Ok(first) => {
+                self.waiting.push_row(first, others);
                 Ok(())
             }
             Err(returned) => {

@@ -1,11 +1,14 @@
 //! Frames that are being made.
-ghost use Rattle.std.specs.Prelude.{◌≡◌, ◌<◌, pos, ◌≤ℤ◌, unsigned_abs, length, IfOk};
+ghost use Rattle.std.specs.Prelude.{◌≡◌, ◌+◌, ◌<◌, ◌≤◌, ℕ, pos, ◌≤ℤ◌, unsigned_abs, length, IfOk};
 ghost use Rattle.av_base.specs.Shapes.{IsLawful, IsVideo, IsWithinLimits, planes_of};
-ghost use Rattle.av_frame.specs.Rasters.{row_of, sample_of};
+ghost use Rattle.std.specs.Simd.Lanes.{put_chunk};
+ghost use Rattle.av_frame.specs.Rasters.{row_of, sample_of, row_by};
 ghost use Rattle.av_frame.specs.Frames.{plane_at, with_row, with_sample, blank_planes, IsPicture, IsPts, IsDuration};
 
 use crate::frame::{Frame, Pools};
+use crate::kernel::Kernel;
 use crate::plane::Plane;
+use crate::rows::RowMap;
 use av_base::{NoMemory, Shape};
 use std::alloc::Global;
 use std::marker::Model;
@@ -43,10 +46,18 @@ fn blank_all(alloc: Global, shape: Shape) -> Result<Vec<Plane>, NoMemory>
 }
 
 impl Edit {
+    /// The picture of these planes.
+    pub(crate) fn new(shape: Shape, planes: Vec<Plane>) -> Edit
+        requires { IsPicture shape planes.items }
+        ensures { result ≡ record { shape = shape; planes = planes.items } }
+    {
+        Edit { shape, planes }
+    }
+
     /// A picture of samples of 0. `samples` counts the samples of a piece of sound; for pictures it is 0.
     ///
     /// # Errors
-    /// Want of memory.
+    /// Out of memory.
     pub fn blank(
         alloc: Global,
         _pools: &mut Pools,
@@ -113,6 +124,42 @@ impl Edit {
         ensures { self.new ≡ record self.old { planes = with_row self.old.planes plane row samples.now } }
     {
         self.planes[plane as usize].set_row(row, samples);
+    }
+
+    /// Replaces samples of eight bits of a row, from a column on.
+    pub fn set_part(&mut self, plane: u32, row: u32, column: u32, samples: &[u8])
+        requires plane { plane < planes_of self.old.shape }
+        requires row { row < (plane_at self.old.planes plane).height }
+        requires wide { column + length samples.now ≤ (plane_at self.old.planes plane).width }
+        ensures { self.new ≡ record self.old { planes = with_row self.old.planes plane row (put_chunk column (row_of (plane_at self.old.planes plane) row) samples.now) } }
+    {
+        self.planes[plane as usize].set_part(row, column, samples);
+    }
+
+    /// Has a kernel write a row of samples of eight bits in place.
+    pub fn paint_row<K: Kernel>(&mut self, kernel: &K, sources: &mut [Frame], plane: u32, row: u32)
+        requires plane { plane < planes_of self.old.shape }
+        requires row { row < (plane_at self.old.planes plane).height }
+        requires fits { (c : ℕ) → c < (plane_at self.old.planes plane).width → K.fits kernel.now sources.old plane row c }
+        requires small { (c : ℕ) → c < (plane_at self.old.planes plane).width → K.value kernel.now sources.old plane row c < 256 }
+        ensures painted { self.new ≡ record self.old {
+          planes = with_row self.old.planes plane row (row_by (plane_at self.old.planes plane).width (K.value kernel.now sources.old plane row));
+        } }
+        ensures same { sources.new ≡ sources.old }
+    {
+        self.planes[plane as usize].paint_row(kernel, sources, plane, row);
+    }
+
+    /// Has a map rewrite a row of samples of eight bits in place.
+    pub fn map_row<M: RowMap>(&mut self, map: &M, plane: u32, row: u32)
+        requires plane { plane < planes_of self.old.shape }
+        requires row { row < (plane_at self.old.planes plane).height }
+        ensures mapped { self.new ≡ record self.old {
+          planes = with_row self.old.planes plane row (row_by (plane_at self.old.planes plane).width (M.value map.now plane (row_of (plane_at self.old.planes plane) row)));
+        } }
+        ensures small { (c : ℕ) → c < (plane_at self.old.planes plane).width → M.value map.now plane (row_of (plane_at self.old.planes plane) row) c < 256 }
+    {
+        self.planes[plane as usize].map_row(map, plane, row);
     }
 
     /// The picture as a frame, with a pts and a duration in ticks of the shape's time base. It takes no

@@ -1,4 +1,4 @@
-//! What a reader or a writer of a file answers where it cannot go on.
+//! What a reader or a writer of a file returns if it can't go on.
 
 /// Why a header was refused.
 #[derive(Clone, Copy, Debug, PartialEq, Eq)]
@@ -9,14 +9,14 @@ pub enum HeadError {
     TooLong,
     /// The host failed, and its count of reads rose in this call.
     Host,
-    /// Want of memory.
+    /// Out of memory.
     NoMemory,
 }
 
 /// Why the next frame was refused.
 #[derive(Clone, Copy, Debug, PartialEq, Eq)]
 pub enum NextError {
-    /// What stands after so many whole frames is no frame, whatever follows.
+    /// The bytes after so many whole frames begin no frame, whatever follows.
     BadFrame {
         /// The number of whole frames before it.
         frame: u64,
@@ -30,7 +30,7 @@ pub enum NextError {
     TooLong,
     /// The host failed, and its count of reads rose in this call.
     Host,
-    /// Want of memory.
+    /// Out of memory.
     NoMemory,
 }
 
@@ -39,6 +39,6 @@ pub enum NextError {
 pub enum WriteError {
     /// The host failed, and its count of writes rose in this call.
     Host,
-    /// Want of memory.
+    /// Out of memory.
     NoMemory,
 }

@@ -26,7 +26,7 @@ pub enum Given {
     End,
 }
 
-/// Want of memory, with the frame that was passed.
+/// Out of memory, with the frame that was passed.
 #[derive(Drop)]
 pub struct Returned {
     /// The frame, as it was.
@@ -66,7 +66,7 @@ pub trait Filter {
     /// Takes the next frame of an input that isn't closed.
     ///
     /// # Errors
-    /// Want of memory, with the frame. The filter then stands where it stood.
+    /// Out of memory, with the frame. The filter is then as it was.
     fn offer(&mut self, alloc: Global, input: u32, frame: Frame) -> Result<(), Returned>
         requires port { input < (pads self.old).inputs }
         requires open { closes self.old input ≡ false }
@@ -99,7 +99,7 @@ pub trait Filter {
     /// Gives the next frame of an output, or says that there is none for now or that there will be none.
     ///
     /// # Errors
-    /// Want of memory. The filter then stands where it stood.
+    /// Out of memory. The filter is then as it was.
     fn give<R: Threads + Sync>(
         &mut self,
         rt: &R,

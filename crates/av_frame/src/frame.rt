@@ -1,10 +1,13 @@
 //! Frames, which stay as they are.
-ghost use Rattle.std.specs.Prelude.{◌≡◌, ◌+◌, ◌<◌, ◌≤◌, pos, length};
+ghost use Rattle.std.specs.Prelude.{◌≡◌, ◌+◌, ◌-◌, ◌<◌, ◌≤◌, ℕ, pos, length, slice_index, IfOk, IfErr, IsOk};
 ghost use Rattle.std.specs.Simd.Lanes.{chunk};
-ghost use Rattle.av_base.specs.Shapes.{planes_of};
+ghost use Rattle.av_base.specs.Shapes.{IsLawful, IsVideo, planes_of, rows_of, width_of, height_of};
 ghost use Rattle.av_frame.specs.Rasters.{row_of, sample_of};
-ghost use Rattle.av_frame.specs.Frames.{plane_at, IsFrame, IsPicture, IsPts, IsDuration};
+ghost use Rattle.av_frame.specs.Grid.{column_in, row_in};
+ghost use Rattle.av_frame.specs.Frames.{plane_at, planes_by, IsFrame, IsPicture, IsPts, IsDuration};
 
+use crate::edit::Edit;
+use crate::grid::place_in;
 use crate::plane::Plane;
 use av_base::{NoMemory, Shape};
 use std::alloc::Global;
@@ -18,7 +21,7 @@ impl Pools {
     /// Pools that hold nothing yet.
     ///
     /// # Errors
-    /// Want of memory.
+    /// Out of memory.
     pub fn new(_alloc: Global) -> Result<Pools, NoMemory> {
         Ok(Pools)
     }
@@ -42,6 +45,13 @@ impl Model for Frame {
     ghost view = { λ f. record { shape = f.shape; planes = f.planes.items; pts = f.pts; duration = f.duration } };
 
     ghost invariant = { λ f. IsFrame (record { shape = f.shape; planes = f.planes.items; pts = f.pts; duration = f.duration }) };
+}
+
+/// Out of memory, with the frame that was to be edited.
+#[derive(Drop)]
+pub struct Unedited {
+    /// The frame, as it was.
+    pub frame: Frame,
 }
 
 impl Frame {
@@ -115,6 +125,97 @@ impl Frame {
         self.planes[plane as usize].part(row, column, out);
     }
 
+    /// Copies samples of eight bits of a column, from a row on, into all of `out`.
+    pub fn column(&mut self, plane: u32, row: u32, column: u32, out: &mut [u8])
+        requires plane { plane < planes_of self.old.shape }
+        requires column { column < (plane_at self.old.planes plane).width }
+        requires high { row + length out.old ≤ (plane_at self.old.planes plane).height }
+        ensures out { (i : ℕ) → i < length out.old → slice_index out.new i ≡ sample_of (plane_at self.old.planes plane) (row + i) column }
+        ensures same { self.new ≡ self.old }
+    {
+        self.planes[plane as usize].column(row, column, out);
+    }
+
+    /// The rows of each plane in the other order. No sample is copied.
+    pub fn upside_down(self) -> Frame
+        ensures { result ≡ record self { planes = planes_by self.shape (λ p r c. sample_of (plane_at self.planes p) ((rows_of self.shape p - 1) - r) c) } }
+    {
+        let Frame {
+            shape,
+            mut planes,
+            pts,
+            duration,
+        } = self;
+        turn_planes(shape, &mut planes);
+        Frame::new(shape, planes, pts, duration)
+    }
+
+    /// The part of the picture that has this shape's size and begins in the column `x` and the row `y`. No sample is
+    /// copied.
+    pub fn window(self, x: u32, y: u32, shape: Shape) -> Frame
+        requires lawful { IsLawful shape }
+        requires video { IsVideo shape.format }
+        requires format { shape.format ≡ self.shape.format }
+        requires columns { x + width_of shape.props ≤ width_of self.shape.props }
+        requires rows { y + height_of shape.props ≤ height_of self.shape.props }
+        ensures { result ≡ record {
+          shape = shape;
+          planes = planes_by shape (λ p r c. sample_of (plane_at self.planes p) (row_in self.shape p y + r) (column_in self.shape p x + c));
+          pts = self.pts;
+          duration = self.duration;
+        } }
+    {
+        let Frame {
+            shape: whole,
+            mut planes,
+            pts,
+            duration,
+        } = self;
+        window_planes(whole, &mut planes, x, y, shape);
+        Frame::new(shape, planes, pts, duration)
+    }
+
+    /// The picture to be edited. The frame's planes are its own, so they move into the edit: no sample is copied, and no
+    /// memory is taken.
+    ///
+    /// # Errors
+    /// Out of memory, for planes that others read too; there are none yet.
+    pub fn edit(self, _alloc: Global, _pools: &mut Pools) -> Result<Edit, Unedited>
+        ensures edit { IfOk result (λ e. e ≡ record { shape = self.shape; planes = self.planes }) }
+        ensures frame { IfErr result (λ e. e.frame ≡ self) }
+        ensures succeeds { IsOk result }
+    {
+        let Frame { shape, planes, .. } = self;
+        Ok(Edit::new(shape, planes))
+    }
+
     /// Lets the frame go.
     pub fn release(self) {}
+}
+
+/// Puts the rows of each plane in the other order.
+fn turn_planes(shape: Shape, planes: &mut [Plane])
+    requires { IsPicture shape planes.old }
+    ensures { planes.new ≡ planes_by shape (λ p r c. sample_of (plane_at planes.old p) ((rows_of shape p - 1) - r) c) }
+{
+    for plane in 0..shape.planes() {
+        planes[plane as usize].upside_down();
+    }
+}
+
+/// Keeps of each plane the part of it that belongs to a part of the picture.
+fn window_planes(whole: Shape, planes: &mut [Plane], x: u32, y: u32, shape: Shape)
+    requires picture { IsPicture whole planes.old }
+    requires lawful { IsLawful shape }
+    requires video { IsVideo shape.format }
+    requires format { shape.format ≡ whole.format }
+    requires columns { x + width_of shape.props ≤ width_of whole.props }
+    requires rows { y + height_of shape.props ≤ height_of whole.props }
+    ensures { planes.new ≡ planes_by shape (λ p r c. sample_of (plane_at planes.old p) (row_in whole p y + r) (column_in whole p x + c)) }
+{
+    for plane in 0..shape.planes() {
+        let (left, top) = place_in(whole, plane, x, y);
+        let (columns, rows) = shape.plane_size(plane);
+        planes[plane as usize].window(left, top, columns, rows);
+    }
 }

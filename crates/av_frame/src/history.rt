@@ -5,10 +5,11 @@
 
 ghost use Rattle.std.specs.Prelude.{◌≡◌, ℕ, ◌<◌, true, false, OnOk, OnErr, IfErr};
 ghost use Rattle.std.specs.Thread.{IsSync};
+ghost use Rattle.av_base.specs.declared.shapes.Shape.{Shape};
 ghost use Rattle.av_frame.specs.Frames.{FrameValue};
-ghost use Rattle.av_frame.specs.Streams.{Stream, Streams, Begins, at_pad, ended_stream, Rises, AllRise};
+ghost use Rattle.av_frame.specs.Streams.{Stream, Streams, Begins, AllBegin, at_pad, ended_stream, Rises, AllRise};
 ghost use Rattle.av_frame.specs.Answers.{IfGave, OnNothing, OnEnd};
-ghost use Rattle.av_frame.specs.FilterLaws.{FilterLaws, IsSlices};
+ghost use Rattle.av_frame.specs.FilterLaws.{Pads, FilterLaws, IsSlices, IsNew};
 ghost use Rattle.av_frame.specs.Histories.{History, offered, finished, given, end_given, no_history, Stands};
 
 use crate::filter::{Filter, Given, Returned};
@@ -17,15 +18,15 @@ use av_base::NoMemory;
 use std::alloc::Global;
 use std::thread::Threads;
 
-/// A filter of which nothing was asked yet stands for the empty history of its function.
+/// A new filter has the empty history of its function.
 pub fn starts<F: Filter>(_filter: &F)
     ensures { Stands (F.pads _filter.now) (F.rest _filter.now) (F.rest _filter.now) (F.closes _filter.now) (F.over _filter.now) no_history }
 {}
 
-/// Offers a frame. For every history that the filter stood for, it then stands for the one with the frame.
+/// Offers a frame. Every history of the filter then has the frame too.
 ///
 /// # Errors
-/// Want of memory, with the frame. The filter then stands for the histories that it stood for.
+/// Out of memory, with the frame. The filter then has the histories that it had.
 pub fn offer<F: Filter>(
     filter: &mut F,
     alloc: Global,
@@ -48,7 +49,7 @@ pub fn offer<F: Filter>(
     }
 }
 
-/// Finishes an input. For every history that the filter stood for, it then stands for the one with that input ended.
+/// Finishes an input. In every history of the filter that input has then ended.
 pub fn finish<F: Filter>(filter: &mut F, input: u32)
     requires { input < (F.pads filter.old).inputs }
     ensures pads { F.pads filter.new ≡ F.pads filter.old }
@@ -59,10 +60,10 @@ pub fn finish<F: Filter>(filter: &mut F, input: u32)
 }
 
 /// Gives what comes next on an output. What was given there begins what the function gives of what was offered. Where
-/// the answer is Nothing or End, it is all of it.
+/// the result is Nothing or End, it is all of it.
 ///
 /// # Errors
-/// Want of memory. The filter then stands for the histories that it stood for.
+/// Out of memory. The filter then has the histories that it had.
 pub fn give<F: Filter, R: Threads + Sync>(
     filter: &mut F,
     rt: &R,
@@ -106,10 +107,13 @@ pub fn begins<F: Filter>(_filter: &F)
         → AllRise (F.pads _filter.now).inputs h.ins → (o : ℕ) → o < (F.pads _filter.now).outputs → Begins (h.outs o) (whole h.ins o) }
 {}
 
-/// What is still to be given obeys the laws of filters: where each input's stream begins another, each output's begins
-/// the other's, and ended inputs give ended outputs. Of a new filter that is its function.
+/// What is still to be given obeys the laws of filters. Of a new filter it is the filter's function, and where each
+/// input's stream begins another, each output's begins the other's.
 pub fn obeys<F: Filter>(_filter: &F)
-    ensures { FilterLaws (F.pads _filter.now) (F.rest _filter.now) (F.closes _filter.now) (F.wants _filter.now) (F.over _filter.now) }
+    ensures laws { FilterLaws (F.pads _filter.now) (F.rest _filter.now) (F.closes _filter.now) (F.wants _filter.now) (F.over _filter.now) }
+    ensures begins { (pads : Pads) (rule : Streams → Streams) (in_shape out_shape : ℕ → Shape) → IsNew (F.pads _filter.now) (F.rest _filter.now) (F.accepts _filter.now) pads rule in_shape out_shape
+        → (s t : Streams) → AllRise (F.pads _filter.now).inputs s → AllRise (F.pads _filter.now).inputs t → AllBegin (F.pads _filter.now).inputs s t
+        → AllBegin (F.pads _filter.now).outputs (F.rest _filter.now s) (F.rest _filter.now t) }
 {}
 
 /// Where an input is closed, then whatever the other inputs become, the function is the same whatever that input becomes.
@@ -126,7 +130,7 @@ pub fn needs_open<F: Filter>(_filter: &F)
         → (i : ℕ) → i < (F.pads _filter.now).inputs → F.wants _filter.now i ≡ true → (F.closes _filter.now i ≡ false) × ((h.ins i).ended ≡ false) }
 {}
 
-/// Once End was answered on every output, every input is closed.
+/// Once every output has returned End, every input is closed.
 pub fn closes_all<F: Filter>(_filter: &F)
     ensures { (whole : Streams → Streams) (h : History) → Stands (F.pads _filter.now) whole (F.rest _filter.now) (F.closes _filter.now) (F.over _filter.now) h
         → ((o : ℕ) → o < (F.pads _filter.now).outputs → (h.outs o).ended ≡ true) → (i : ℕ) → i < (F.pads _filter.now).inputs → F.closes _filter.now i ≡ true }

@@ -7,7 +7,8 @@ ghost use Rattle.av_frame.specs.Frames.{FrameValue, planes_by};
 use crate::edit::Edit;
 use crate::frame::Frame;
 
-/// What each sample of a new picture is, as an equation on the samples of its sources.
+/// What each sample of a new picture is, as an equation on the samples of its sources. These are a slice and not a list, as a
+/// single frame is lent as a slice (`std::slice::from_mut`), while a list would be built for each frame.
 pub trait Kernel: Sync {
     /// Whether the equation has a value in a plane, a row and a column, from these sources.
     ghost fits: { Self → List FrameValue → ℕ → ℕ → ℕ → Type 0 };
@@ -35,19 +36,11 @@ pub trait Kernel: Sync {
     }
 }
 
-/// Gives every sample of a plane the kernel's value. The buffer is as long as a row.
-fn paint_plane<K: Kernel>(
-    edit: &mut Edit,
-    kernel: &K,
-    sources: &mut [Frame],
-    plane: u32,
-    buffer: &mut [u8],
-)
+/// Gives every sample of a plane the kernel's value.
+fn paint_plane<K: Kernel>(edit: &mut Edit, kernel: &K, sources: &mut [Frame], plane: u32)
     requires plane { plane < planes_of edit.old.shape }
-    requires wide { length buffer.old ≡ columns_of edit.old.shape plane }
-    requires narrow { length buffer.old < 2 ^ 32 }
-    requires fits { (r c : ℕ) → r < rows_of edit.old.shape plane → c < length buffer.old → K.fits kernel.now sources.old plane r c }
-    requires small { (r c : ℕ) → r < rows_of edit.old.shape plane → c < length buffer.old → K.value kernel.now sources.old plane r c < 256 }
+    requires fits { (r c : ℕ) → r < rows_of edit.old.shape plane → c < columns_of edit.old.shape plane → K.fits kernel.now sources.old plane r c }
+    requires small { (r c : ℕ) → r < rows_of edit.old.shape plane → c < columns_of edit.old.shape plane → K.value kernel.now sources.old plane r c < 256 }
     ensures painted { edit.new ≡ record edit.old {
       planes = slice_set edit.old.planes plane
           (raster_by (columns_of edit.old.shape plane) (rows_of edit.old.shape plane) (K.value kernel.now sources.old plane));
@@ -56,27 +49,18 @@ fn paint_plane<K: Kernel>(
 {
     let (_columns, rows) = edit.shape().plane_size(plane);
     for row in 0..rows {
-        kernel.row(sources, plane, row, buffer);
-        edit.set_row(plane, row, buffer);
+        edit.paint_row(kernel, sources, plane, row);
     }
 }
 
-/// Gives every sample of the picture the kernel's value, row by row. The buffer has room for a row of each plane.
-pub fn paint<K: Kernel>(edit: &mut Edit, kernel: &K, sources: &mut [Frame], buffer: &mut [u8])
-    requires wide { (p : ℕ) → p < planes_of edit.old.shape → columns_of edit.old.shape p ≤ length buffer.old }
+/// Gives every sample of the picture the kernel's value, row by row. Each row is made where it stays.
+pub fn paint<K: Kernel>(edit: &mut Edit, kernel: &K, sources: &mut [Frame])
     requires fits { (p r c : ℕ) → p < planes_of edit.old.shape → r < rows_of edit.old.shape p → c < columns_of edit.old.shape p → K.fits kernel.now sources.old p r c }
     requires small { (p r c : ℕ) → p < planes_of edit.old.shape → r < rows_of edit.old.shape p → c < columns_of edit.old.shape p → K.value kernel.now sources.old p r c < 256 }
     ensures painted { edit.new ≡ record edit.old { planes = planes_by edit.old.shape (K.value kernel.now sources.old) } }
     ensures same { sources.new ≡ sources.old }
 {
     for plane in 0..edit.shape().planes() {
-        let (columns, _rows) = edit.shape().plane_size(plane);
-        paint_plane(
-            edit,
-            kernel,
-            sources,
-            plane,
-            &mut buffer[..columns as usize],
-        );
+        paint_plane(edit, kernel, sources, plane);
     }
 }

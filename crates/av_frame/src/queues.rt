@@ -1,6 +1,6 @@
 //! Frames that wait on several outputs.
 
-ghost use Rattle.std.specs.Prelude.{◌≡◌, ◌≢◌, ℕ, ◌<◌, ◌++◌, ◌∷◌, [], true, false, length, map, nat_lt, slice_get, IfOk, IfSome, IfNone, OnOk, replicate};
+ghost use Rattle.std.specs.Prelude.{◌≡◌, ◌≢◌, ℕ, ◌<◌, ◌+◌, ◌++◌, ◌∷◌, [], true, false, length, map, nat_lt, slice_get, take, IfOk, IfSome, IfNone, OnOk, replicate};
 ghost use Rattle.std.specs.List.{list_all};
 ghost use Rattle.std.specs.VecDeque.{deque_len, deque_capacity};
 ghost use Rattle.av_frame.specs.Frames.{FrameValue};
@@ -57,14 +57,14 @@ impl Queues {
         reserve_each(&mut self.queues)
     }
 
-    /// Puts a frame into each queue.
-    pub(crate) fn push_row(&mut self, row: Vec<Frame>)
+    /// Puts a frame into each queue: the first one into that of output 0, and the others, in order, into the later ones.
+    pub(crate) fn push_row(&mut self, first: Frame, others: Vec<Frame>)
         requires room { self.old.has_room ≡ true }
-        requires outputs { length row.items ≡ length self.old.lists }
+        requires outputs { length others.items + 1 ≡ length self.old.lists }
         ensures outputs { length self.new.lists ≡ length self.old.lists }
-        ensures pushed { (o : ℕ) (x : FrameValue) → slice_get row.items o ≡ Some x → queue self.new.lists o ≡ queue self.old.lists o ++ x ∷ [] }
+        ensures pushed { (o : ℕ) (x : FrameValue) → slice_get (first ∷ others.items) o ≡ Some x → queue self.new.lists o ≡ queue self.old.lists o ++ x ∷ [] }
     {
-        push_each(&mut self.queues, row);
+        push_each(&mut self.queues, first, others);
     }
 
     /// Takes the first frame of an output's queue.
@@ -95,17 +95,31 @@ fn reserve_each(queues: &mut Vec<VecDeque<Frame>>) -> Result<(), NoMemory>
     Ok(())
 }
 
-fn push_each(queues: &mut Vec<VecDeque<Frame>>, mut row: Vec<Frame>)
-    requires room { list_all (λ q. nat_lt (deque_len q) (deque_capacity q)) queues.old.items ≡ true }
-    requires outputs { length row.items ≡ length queues.old.items }
+/// Puts a frame into one queue, which has room for it.
+fn push_at(queues: &mut Vec<VecDeque<Frame>>, place: usize, frame: Frame)
+    requires place { place < length queues.old.items }
+    requires room { list_all (λ q. nat_lt (deque_len q) (deque_capacity q)) (take (place + 1) queues.old.items) ≡ true }
     ensures outputs { length queues.new.items ≡ length queues.old.items }
-    ensures pushed { (o : ℕ) (x : FrameValue) → slice_get row.items o ≡ Some x → queue (map (λ q. q.items) queues.new.items) o ≡ queue (map (λ q. q.items) queues.old.items) o ++ x ∷ [] }
+    ensures room { list_all (λ q. nat_lt (deque_len q) (deque_capacity q)) (take place queues.new.items) ≡ true }
+    ensures pushed { queue (map (λ q. q.items) queues.new.items) place ≡ queue (map (λ q. q.items) queues.old.items) place ++ frame ∷ [] }
+    ensures others { (o : ℕ) → o ≢ place → queue (map (λ q. q.items) queues.new.items) o ≡ queue (map (λ q. q.items) queues.old.items) o }
 {
-    while let Some(frame) = row.pop() {
-        let queue = &mut queues[row.len()];
-        match queue.push_back(frame) {
-            Ok(()) => {}
-            Err(_) => unreachable!(),
-        }
+    let queue = &mut queues[place];
+    match queue.push_back(frame) {
+        Ok(()) => {}
+        Err(_) => unreachable!(),
     }
+}
+
+/// Puts a frame into each queue, from the last one down.
+fn push_each(queues: &mut Vec<VecDeque<Frame>>, first: Frame, mut others: Vec<Frame>)
+    requires room { list_all (λ q. nat_lt (deque_len q) (deque_capacity q)) queues.old.items ≡ true }
+    requires outputs { length others.items + 1 ≡ length queues.old.items }
+    ensures outputs { length queues.new.items ≡ length queues.old.items }
+    ensures pushed { (o : ℕ) (x : FrameValue) → slice_get (first ∷ others.items) o ≡ Some x → queue (map (λ q. q.items) queues.new.items) o ≡ queue (map (λ q. q.items) queues.old.items) o ++ x ∷ [] }
+{
+    while let Some(frame) = others.pop() {
+        push_at(queues, others.len() + 1, frame);
+    }
+    push_at(queues, 0, first);
 }

@@ -12,7 +12,7 @@ pub enum OptionError {
         /// The number of the argument, counted from 0.
         option: u32,
     },
-    /// A value without a name stands behind a named one, or past the last option.
+    /// A value without a name comes after a named one, or past the last option.
     TooManyValues {
         /// The number of the argument, counted from 0.
         option: u32,
@@ -26,7 +26,7 @@ pub enum OptionError {
     MissingOption,
     /// The filter isn't built yet.
     NotYet,
-    /// Want of memory.
+    /// Out of memory.
     NoMemory,
 }
 
@@ -91,10 +91,10 @@ pub enum ConfigError {
     },
     /// An expression has no value.
     NoValue {
-        /// The number of the argument, counted from 0.
+        /// The number of its option in the filter's table of options, counted from 0.
         option: u32,
     },
-    /// Want of memory.
+    /// Out of memory.
     NoMemory,
 }
 

@@ -79,11 +79,11 @@ fn take_all<F: Filter, R: Threads + Sync>(
     }
 }
 
-/// Offers whole streams, one for each input, and ends them. The answer is all that the filter gives, output by output:
+/// Offers whole streams, one for each input, and ends them. Returns all that the filter gives, output by output:
 /// its function of the ended streams.
 ///
 /// # Errors
-/// Want of memory.
+/// Out of memory.
 pub fn filter_whole<F: Filter, R: Threads + Sync>(
     filter: &mut F,
     rt: &R,

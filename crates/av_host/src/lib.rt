@@ -2,12 +2,14 @@
 #![tactic(auto)]
 
 mod host;
+mod host_runs;
 mod memory;
 mod memory_calls;
 mod parts;
 mod real;
 
 pub use host::{Failed, Host, HostError};
+pub use host_runs::{fill, say_all, write_all};
 pub use parts::MemoryHost;
 pub use real::RealHost;
 

@@ -3,20 +3,21 @@ use Rattle.std.proofs.Common.{◌≡◌, ℕ, List, sym, ◌∙◌, ap, subst, i
 use Rattle.av_base.specs.declared.shapes.Shape.{Shape}
 use Rattle.av_frame.specs.Frames.{FrameValue}
 use Rattle.graph_text.specs.declared.graph.FilterCall.{FilterCall}
-use Rattle.node_core.specs.declared.ready.Ready.{Ready}
+use Rattle.node_core.specs.Shaping.{ReadyValue}
 use Rattle.avgraph.specs.Chains.{AreReady, through}
-use Rattle.avgraph.specs.Answers.{Answers, whole_text, AnswersAreOne}
+use Rattle.avgraph.specs.Answers.{Answers, AnswersAreOne}
+use Rattle.y4m_io.specs.Files.{whole_text}
 use Rattle.avgraph.specs.Requests.{SaysFilters, RefusesText, Request, IsRequest, IsRefused, RequestsAreOne}
-use Rattle.avgraph.specs.declared.fault.Fault.{Fault}
+use Rattle.av_faults.specs.declared.fault.Fault.{Fault}
 use Rattle.avgraph.proofs.FileLemmas.{chain_one, answer_or_fault, one_file_fault}
-use Rattle.avgraph.proofs.LawLemmas.{one_reading}
+use Rattle.y4m_io.proofs.LawLemmas.{one_reading}
 use Rattle.avgraph.proofs.RequestLemmas.{one_chain, says_or_refuses, one_refusal, same_words, no_words}
 
 -- ---- answers
 
-same_text : (s t : Shape) (rs qs : List Ready) (xs ys : List FrameValue) → s ≡ t → rs ≡ qs → xs ≡ ys → whole_text s (through rs xs) ≡ whole_text t (through qs ys)
+same_text : (s t : Shape) (rs qs : List ReadyValue) (xs ys : List FrameValue) → s ≡ t → rs ≡ qs → xs ≡ ys → whole_text s (through rs xs) ≡ whole_text t (through qs ys)
 same_text s t rs qs xs ys a b c =
-    ap (λ (u : Shape). whole_text u (through rs xs)) a ∙ (ap (λ (us : List Ready). whole_text t (through us xs)) b ∙ ap (λ (zs : List FrameValue). whole_text t (through qs zs)) c)
+    ap (λ (u : Shape). whole_text u (through rs xs)) a ∙ (ap (λ (us : List ReadyValue). whole_text t (through us xs)) b ∙ ap (λ (zs : List FrameValue). whole_text t (through qs zs)) c)
 
 one_answer : (limit : ℕ) (calls : List FilterCall) (bytes out other : List ℕ) → Answers limit calls bytes out → Answers limit calls bytes other → out ≡ other
 one_answer limit calls bytes out other a b =

@@ -8,7 +8,6 @@ use Rattle.std.proofs.lemmas.List.{map-append, map-id, append-nil, take-append-d
 use Rattle.std.proofs.lemmas.Simd.{map-map}
 use Rattle.av_base.specs.declared.NoMemory.{NoMemory}
 use Rattle.av_base.specs.declared.shapes.Shape.{Shape}
-use Rattle.av_base.specs.Shapes.{IsLawful, IsVideo}
 use Rattle.av_frame.specs.Answers.{frames_of}
 use Rattle.av_frame.specs.Frames.{FrameValue}
 use Rattle.av_frame.specs.FilterLaws.{Pads, FilterLaws, IsNew, one_to}
@@ -16,30 +15,26 @@ use Rattle.av_frame.specs.Rules.{each_stream, each_rule}
 use Rattle.av_frame.specs.Streams.{Stream, Streams, open_stream, at_pad, after, coming, nothing_more, Rises, RisesFrom, AllRise, FollowsOn}
 use Rattle.av_frame.specs.declared.filter.Given.{Given}
 use Rattle.av_frame.specs.declared.filter.Given.TheVariants as gives
-use Rattle.node_core.specs.declared.kind.Kind.{Kind}
-use Rattle.node_core.specs.declared.ready.Ready.{Ready}
-use Rattle.node_core.specs.declared.ready.Settings.{Settings}
-use Rattle.node_core.specs.Instances.{frame_made, made_in, made_by, given}
-use Rattle.node_core.specs.Shaping.{Takes, IsReady}
-use Rattle.node_core.proofs.InstanceLaws.{made_times, made_shape}
+use Rattle.node_core.specs.Shaping.{ReadyValue, made_by, given}
+use Rattle.node_core.specs.Filters.{frame_filters}
+use Rattle.node_core.specs.FilterLaws.{frame_filter_laws}
 use Rattle.graph_text.specs.declared.graph.FilterCall.{FilterCall}
-use Rattle.node_core.proofs.ShapeLaws.{ready_pictured}
-use Rattle.avgraph.specs.Chains.{through, passed, AreReady, AreReadyKinds, AllFit, StartsFrom, TakesFrom, AllTake}
+use Rattle.avgraph.specs.Chains.{through, passed, AreReady, AreLinked, StartsFrom, TakesFrom, AllTake}
 
 -- ---- lists of frames
 
 -- the frames at the end of a chain are those that pass it one by one
-pub through-map : (rs : List Ready) (xs : List FrameValue) → through rs xs ≡ map (passed rs) xs
+pub through-map : (rs : List ReadyValue) (xs : List FrameValue) → through rs xs ≡ map (passed rs) xs
 through-map [] xs = sym (map-id xs)
 through-map (r ∷ rs) xs = through-map rs (given r xs) ∙ map-map (passed rs) (made_by r) xs
 
 -- one more frame goes in, and one more comes out
-pub through-push : (rs : List Ready) (frames : List FrameValue) (x : FrameValue) → through rs (frames ++ x ∷ []) ≡ through rs frames ++ passed rs x ∷ []
+pub through-push : (rs : List ReadyValue) (frames : List FrameValue) (x : FrameValue) → through rs (frames ++ x ∷ []) ≡ through rs frames ++ passed rs x ∷ []
 through-push rs frames x =
     through-map rs (frames ++ x ∷ []) ∙ (map-append (passed rs) frames (x ∷ []) ∙ ap (λ (z : List FrameValue). z ++ passed rs x ∷ []) (sym (through-map rs frames)))
 
 -- no frames come out of none
-pub through-nil : (rs : List Ready) → through rs [] ≡ []
+pub through-nil : (rs : List ReadyValue) → through rs [] ≡ []
 through-nil rs = through-map rs []
 
 -- ---- one filter
@@ -107,25 +102,22 @@ takes_on {low} {made} {x} {left = left} y takes h same a follow = record {
   accepts_all = λ z e f. follow z (record { shape = e; later = omega (arith, ints) });
 }
 
--- a filter that was made for frames of a shape takes them from any time on
-pub new_takes : (low : ℤ) (r : Ready) (s out : Shape) {p : Pads} {rest : Streams → Streams} {accepts : ℕ → FrameValue → Type 0}
-    → r.ins ≡ s ∷ [] → IsNew p rest accepts (one_to 1) (each_rule (λ _. frame_made r.settings s)) (λ _. s) (λ _. out) → TakesFrom low s (made_by r) p rest accepts
-new_takes low r s out {rest = rest} e new =
-    let same : made_by r ≡ frame_made r.settings s = ap (made_in r.settings) e in
-    record {
-      pads = new.pads_are;
-      rest_is = λ ins f g. new.rest_is ins 0 (omega arith) ∙ ap (λ (made : FrameValue → FrameValue). each_stream made (ins 0)) (sym same);
-      accepts_all = λ x f g. new.accepts_first 0 x (omega arith) f;
-    }
+-- a filter that was started for frames of a shape takes them from any time on
+pub new_takes : (low : ℤ) (r : ReadyValue) (s out : Shape) {p : Pads} {rest : Streams → Streams} {accepts : ℕ → FrameValue → Type 0}
+    → IsNew p rest accepts (one_to 1) (each_rule (λ _. made_by r)) (λ _. s) (λ _. out) → TakesFrom low s (made_by r) p rest accepts
+new_takes low r s out new = record {
+  pads = new.pads_are;
+  rest_is = λ ins f g. new.rest_is ins 0 (omega arith);
+  accepts_all = λ x f g. new.accepts_first 0 x (omega arith) f;
+}
 
 -- ---- chains
 
-pub made_at : (t : Settings) (ss : List Shape) (x : FrameValue) → (made_in t ss x).pts ≡ x.pts
-made_at t [] x = refl
-made_at t (s ∷ ss) x = (made_times t s x).pts
+made_at : (r : ReadyValue) (x : FrameValue) → (made_by r x).pts ≡ x.pts
+made_at r x = (frame_filter_laws.making.keeps r.settings x).pts
 
 -- one more filter stands behind a chain
-pub take_more : {V : Type 0} (pads : V → Pads) (rest : V → Streams → Streams) (accepts : V → ℕ → FrameValue → Type 0) (low : ℤ) (s mid u : Shape) (rs : List Ready) (vs : List V) (r : Ready) (v : V)
+pub take_more : {V : Type 0} (pads : V → Pads) (rest : V → Streams → Streams) (accepts : V → ℕ → FrameValue → Type 0) (low : ℤ) (s mid u : Shape) (rs : List ReadyValue) (vs : List V) (r : ReadyValue) (v : V)
     → AllTake pads rest accepts low s rs vs mid → TakesFrom low mid (made_by r) (pads v) (rest v) (accepts v) → ((x : FrameValue) → x.shape ≡ mid → (made_by r x).shape ≡ u)
     → AllTake pads rest accepts low s (rs ++ r ∷ []) (vs ++ v ∷ []) u
 take_more pads rest accepts low s mid u [] [] r v all takes shaped = rw (sym all) (takes, (u, shaped, refl))
@@ -135,7 +127,7 @@ take_more pads rest accepts low s mid u [] (w ∷ vs) r v all takes shaped = abs
 take_more pads rest accepts low s mid u (q ∷ rs) [] r v all takes shaped = absurd all
 
 -- the first of those behind i
-drop_front : (rs left : List Ready) (r : Ready) (i : ℕ) → drop i rs ≡ r ∷ left → (take (i + 1) rs ≡ take i rs ++ r ∷ []) × (drop (i + 1) rs ≡ left)
+drop_front : (rs left : List ReadyValue) (r : ReadyValue) (i : ℕ) → drop i rs ≡ r ∷ left → (take (i + 1) rs ≡ take i rs ++ r ∷ []) × (drop (i + 1) rs ≡ left)
 drop_front rs left r i e =
     let long : length (drop i rs) ≡ length (r ∷ left) = ap length e in
     let less : i < length rs = grind (arith, length-drop i rs) in
@@ -145,7 +137,7 @@ drop_front rs left r i e =
     (rw (add-one i) (rw same at taken), rw (add-one i) cc)
 
 -- The first i filters of a chain have passed the frame, and take later ones. The others are still to.
-pub record Passing {V : Type 0} (pads : V → Pads) (rest : V → Streams → Streams) (accepts : V → ℕ → FrameValue → Type 0) (low : ℤ) (t : Shape) (rs : List Ready) (vs : List V) (i : ℕ) (first current : FrameValue) : Type 0 where
+pub record Passing {V : Type 0} (pads : V → Pads) (rest : V → Streams → Streams) (accepts : V → ℕ → FrameValue → Type 0) (low : ℤ) (t : Shape) (rs : List ReadyValue) (vs : List V) (i : ℕ) (first current : FrameValue) : Type 0 where
   pub mid : Shape
   pub done : AllTake pads rest accepts (first.pts +ℤ pos 1) first.shape (take i rs) (take i vs) mid
   pub left : AllTake pads rest accepts low mid (drop i rs) (drop i vs) t
@@ -154,13 +146,13 @@ pub record Passing {V : Type 0} (pads : V → Pads) (rest : V → Streams → St
   pub same_end : passed (drop i rs) current ≡ passed rs first
 
 -- what is known of the next filter: what it makes, and that the frame is then one filter further
-pub record Next {V : Type 0} (pads : V → Pads) (rest : V → Streams → Streams) (accepts : V → ℕ → FrameValue → Type 0) (low : ℤ) (t : Shape) (rs : List Ready) (vs : List V) (i : ℕ) (first current : FrameValue) (v : V) : Type 0 where
-  pub ready : Ready
+pub record Next {V : Type 0} (pads : V → Pads) (rest : V → Streams → Streams) (accepts : V → ℕ → FrameValue → Type 0) (low : ℤ) (t : Shape) (rs : List ReadyValue) (vs : List V) (i : ℕ) (first current : FrameValue) (v : V) : Type 0 where
+  pub ready : ReadyValue
   pub takes : TakesFrom low current.shape (made_by ready) (pads v) (rest v) (accepts v)
   pub passes : (w : V) (next : FrameValue) → TakesFrom (current.pts +ℤ pos 1) current.shape (made_by ready) (pads w) (rest w) (accepts w) → next ≡ made_by ready current
       → Passing pads rest accepts low t rs (set vs i w) (i + 1) first next
 
-next_at : {V : Type 0} (pads : V → Pads) (rest : V → Streams → Streams) (accepts : V → ℕ → FrameValue → Type 0) (low : ℤ) (t mid : Shape) (rs : List Ready) (vs : List V) (i : ℕ) (first current : FrameValue) (v : V) (qs : List Ready) (ws : List V)
+next_at : {V : Type 0} (pads : V → Pads) (rest : V → Streams → Streams) (accepts : V → ℕ → FrameValue → Type 0) (low : ℤ) (t mid : Shape) (rs : List ReadyValue) (vs : List V) (i : ℕ) (first current : FrameValue) (v : V) (qs : List ReadyValue) (ws : List V)
     → i < length vs → drop i rs ≡ qs → drop i vs ≡ v ∷ ws → drop (i + 1) vs ≡ ws
     → AllTake pads rest accepts (first.pts +ℤ pos 1) first.shape (take i rs) (take i vs) mid → AllTake pads rest accepts low mid qs (v ∷ ws) t
     → current.shape ≡ mid → current.pts ≡ first.pts → passed qs current ≡ passed rs first
@@ -176,12 +168,12 @@ next_at pads rest accepts low t mid rs vs i first current v (r ∷ qs) ws less a
         done = rw (parts.0, take-set_at vs i (i + 1) w refl less) (take_more pads rest accepts (first.pts +ℤ pos 1) first.shape mid left.1.0 (take i rs) (take i vs) r w done (rw (shape, time) at takes) left.1.1);
         left = rw (parts.1, drop-set-lt (i + 1) vs i w (omega arith), behind) left.1.2;
         shape = rw is (left.1.1 current shape);
-        time = rw is (made_at r.settings r.ins current ∙ time);
+        time = rw is (made_at r current ∙ time);
         same_end = rw (parts.1, is) same;
       };
     }
 
-pub next_of : {V : Type 0} (pads : V → Pads) (rest : V → Streams → Streams) (accepts : V → ℕ → FrameValue → Type 0) (low : ℤ) (t : Shape) (rs : List Ready) (vs : List V) (i : ℕ) (first current : FrameValue) (v : V)
+pub next_of : {V : Type 0} (pads : V → Pads) (rest : V → Streams → Streams) (accepts : V → ℕ → FrameValue → Type 0) (low : ℤ) (t : Shape) (rs : List ReadyValue) (vs : List V) (i : ℕ) (first current : FrameValue) (v : V)
     → v ≡ get_or vs i v → i < length vs → Passing pads rest accepts low t rs vs i first current → Next pads rest accepts low t rs vs i first current v
 next_of pads rest accepts low t rs vs i first current v is less p =
     let front = drop-cons vs i v less in
@@ -189,101 +181,81 @@ next_of pads rest accepts low t rs vs i first current v is less p =
     next_at pads rest accepts low t p.mid rs vs i first current v (drop i rs) (drop (suc i) vs) less refl at (ap (λ (n : ℕ). drop n vs) (add-one i)) p.done (rw at at p.left) p.shape p.time p.same_end
 
 -- every filter has passed it
-pub all_passed : {V : Type 0} (pads : V → Pads) (rest : V → Streams → Streams) (accepts : V → ℕ → FrameValue → Type 0) (low : ℤ) (t : Shape) (rs : List Ready) (vs : List V) (i : ℕ) (first current : FrameValue)
+pub all_passed : {V : Type 0} (pads : V → Pads) (rest : V → Streams → Streams) (accepts : V → ℕ → FrameValue → Type 0) (low : ℤ) (t : Shape) (rs : List ReadyValue) (vs : List V) (i : ℕ) (first current : FrameValue)
     → length vs ≤ i → Passing pads rest accepts low t rs vs i first current
     → AllTake pads rest accepts (first.pts +ℤ pos 1) first.shape rs vs t × (current ≡ passed rs first) × (current.shape ≡ t)
 all_passed pads rest accepts low t rs vs i first current long p =
     ended (drop i rs) refl (rw (drop_all i vs long) at p.left) p.same_end
   where
-    ended : (qs : List Ready) → drop i rs ≡ qs → AllTake pads rest accepts low p.mid qs [] t → passed qs current ≡ passed rs first → AllTake pads rest accepts (first.pts +ℤ pos 1) first.shape rs vs t × (current ≡ passed rs first) × (current.shape ≡ t)
+    ended : (qs : List ReadyValue) → drop i rs ≡ qs → AllTake pads rest accepts low p.mid qs [] t → passed qs current ≡ passed rs first → AllTake pads rest accepts (first.pts +ℤ pos 1) first.shape rs vs t × (current ≡ passed rs first) × (current.shape ≡ t)
     ended [] are left same =
-        let whole : take i rs ≡ rs = sym (append-nil (take i rs)) ∙ (ap (λ (qs : List Ready). take i rs ++ qs) (sym are) ∙ take-append-drop i rs) in
+        let whole : take i rs ≡ rs = sym (append-nil (take i rs)) ∙ (ap (λ (qs : List ReadyValue). take i rs ++ qs) (sym are) ∙ take-append-drop i rs) in
         (rw left (rw (whole, take_all i vs long) at p.done), same, rw left p.shape)
     ended (r ∷ qs) are left same = absurd left
 
 -- ---- chains that are started
 
-made_fits : (k : Kind) (s out : Shape) (r : Ready) → IsReady k s r → r.outs ≡ out ∷ [] → (x : FrameValue) → x.shape ≡ s → (made_by r x).shape ≡ out
-made_fits k s out r ready outs x e = rw ready.ins (made_shape k s r out x ready outs e)
+made_fits : (r : ReadyValue) (s : Shape) (x : FrameValue) → x.shape ≡ s → (made_by r x).shape ≡ frame_filters.making.shape r.settings s
+made_fits r s x e = frame_filter_laws.making.shaped r.settings x ∙ ap (frame_filters.making.shape r.settings) e
 
--- The first i filters of a chain are made, and take frames from time 0 on.
-pub record Started {V : Type 0} (pads : V → Pads) (rest : V → Streams → Streams) (accepts : V → ℕ → FrameValue → Type 0) (s t : Shape) (rs : List Ready) (vs : List V) (i : ℕ) : Type 0 where
-  pub kinds : List Kind
+-- The first i filters of a chain are started, and take frames from time 0 on.
+pub record Started {V : Type 0} (pads : V → Pads) (rest : V → Streams → Streams) (accepts : V → ℕ → FrameValue → Type 0) (s t : Shape) (rs : List ReadyValue) (vs : List V) (i : ℕ) : Type 0 where
   pub mid : Shape
   pub done : AllTake pads rest accepts (pos 0) s (take i rs) vs mid
-  pub ready : AreReadyKinds kinds mid (drop i rs) t
-  pub fit : AllFit kinds mid (drop i rs)
+  pub linked : AreLinked mid (drop i rs) t
 
--- what is known of the next filter that is to be made, and that the chain is then one filter longer
-pub record ToStart {V : Type 0} (pads : V → Pads) (rest : V → Streams → Streams) (accepts : V → ℕ → FrameValue → Type 0) (s t : Shape) (rs : List Ready) (vs : List V) (i : ℕ) (r : Ready) : Type 0 where
-  pub kind : Kind
+-- what is known of the next filter that is to be started, and that the chain is then one filter longer
+pub record ToStart {V : Type 0} (pads : V → Pads) (rest : V → Streams → Streams) (accepts : V → ℕ → FrameValue → Type 0) (s t : Shape) (rs : List ReadyValue) (vs : List V) (i : ℕ) (r : ReadyValue) : Type 0 where
   pub shape : Shape
   pub out : Shape
-  pub ready : IsReady kind shape r
+  pub ins : r.ins ≡ shape ∷ []
   pub outs : r.outs ≡ out ∷ []
-  pub lawful : IsLawful shape
-  pub video : IsVideo shape.format
-  pub takes : Takes kind shape.format
-  pub starts : (v : V) → IsNew (pads v) (rest v) (accepts v) (one_to 1) (each_rule (λ _. frame_made r.settings shape)) (λ _. shape) (λ _. out)
-      → Started pads rest accepts s t rs (vs ++ v ∷ []) (i + 1)
+  pub starts : (v : V) → IsNew (pads v) (rest v) (accepts v) (one_to 1) (each_rule (λ _. made_by r)) (λ _. shape) (λ _. out) → Started pads rest accepts s t rs (vs ++ v ∷ []) (i + 1)
 
-start_at : {V : Type 0} (pads : V → Pads) (rest : V → Streams → Streams) (accepts : V → ℕ → FrameValue → Type 0) (s t mid : Shape) (rs : List Ready) (vs : List V) (i : ℕ) (r : Ready) (qs : List Ready) (kinds : List Kind)
-    → drop i rs ≡ r ∷ qs → AllTake pads rest accepts (pos 0) s (take i rs) vs mid → AreReadyKinds kinds mid (r ∷ qs) t → AllFit kinds mid (r ∷ qs)
-    → ToStart pads rest accepts s t rs vs i r
-start_at pads rest accepts s t mid rs vs i r qs [] are done ready fit = absurd ready
-start_at pads rest accepts s t mid rs vs i r qs (k ∷ ks) are done ready fit =
+start_at : {V : Type 0} (pads : V → Pads) (rest : V → Streams → Streams) (accepts : V → ℕ → FrameValue → Type 0) (s t mid : Shape) (rs : List ReadyValue) (vs : List V) (i : ℕ) (r : ReadyValue) (qs : List ReadyValue)
+    → drop i rs ≡ r ∷ qs → AllTake pads rest accepts (pos 0) s (take i rs) vs mid → AreLinked mid (r ∷ qs) t → ToStart pads rest accepts s t rs vs i r
+start_at pads rest accepts s t mid rs vs i r qs are done linked =
     let parts = drop_front rs qs r i are in
-    let out = ready.1.0 in
+    let out = frame_filters.making.shape r.settings mid in
     record {
-      kind = k;
       shape = mid;
       out = out;
-      ready = ready.0;
-      outs = ready.1.1;
-      lawful = fit.0;
-      video = fit.1;
-      takes = fit.2;
+      ins = linked.0;
+      outs = linked.1;
       starts = λ v new. record {
-        kinds = ks;
         mid = out;
-        done = rw parts.0 (take_more pads rest accepts (pos 0) s mid out (take i rs) vs r v done (new_takes (pos 0) r mid out ready.0.ins new) (made_fits k mid out r ready.0 ready.1.1));
-        ready = rw parts.1 ready.1.2;
-        fit = rw parts.1 (fit.3 out ready.1.1);
+        done = rw parts.0 (take_more pads rest accepts (pos 0) s mid out (take i rs) vs r v done (new_takes (pos 0) r mid out new) (made_fits r mid));
+        linked = rw parts.1 linked.2;
       };
     }
 
-pub to_start : {V : Type 0} (pads : V → Pads) (rest : V → Streams → Streams) (accepts : V → ℕ → FrameValue → Type 0) (s t : Shape) (rs : List Ready) (vs : List V) (i : ℕ) (r : Ready)
+pub to_start : {V : Type 0} (pads : V → Pads) (rest : V → Streams → Streams) (accepts : V → ℕ → FrameValue → Type 0) (s t : Shape) (rs : List ReadyValue) (vs : List V) (i : ℕ) (r : ReadyValue)
     → r ≡ get_or rs i r → i < length rs → Started pads rest accepts s t rs vs i → ToStart pads rest accepts s t rs vs i r
 to_start pads rest accepts s t rs vs i r is less started =
     let at : drop i rs ≡ r ∷ drop (suc i) rs = rw (sym is) at (drop-cons rs i r less) in
-    start_at pads rest accepts s t started.mid rs vs i r (drop (suc i) rs) started.kinds at started.done (rw at at started.ready) (rw at at started.fit)
+    start_at pads rest accepts s t started.mid rs vs i r (drop (suc i) rs) at started.done (rw at at started.linked)
 
--- every filter is made
-pub all_started : {V : Type 0} (pads : V → Pads) (rest : V → Streams → Streams) (accepts : V → ℕ → FrameValue → Type 0) (s t : Shape) (rs : List Ready) (vs : List V) (i : ℕ)
+-- every filter is started
+pub all_started : {V : Type 0} (pads : V → Pads) (rest : V → Streams → Streams) (accepts : V → ℕ → FrameValue → Type 0) (s t : Shape) (rs : List ReadyValue) (vs : List V) (i : ℕ)
     → length rs ≤ i → Started pads rest accepts s t rs vs i → AllTake pads rest accepts (pos 0) s rs vs t
 all_started pads rest accepts s t rs vs i long started =
-    let end : t ≡ started.mid = last started.kinds started.mid (rw (drop_all i rs long) at started.ready) in
+    let end : t ≡ started.mid = rw (drop_all i rs long) at started.linked in
     rw end (rw (take_all i rs long) at started.done)
-  where
-    last : (ks : List Kind) (mid : Shape) → AreReadyKinds ks mid [] t → t ≡ mid
-    last [] mid e = e
-    last (k ∷ ks) mid e = absurd e
 
--- none is made yet
-pub none_started : {V : Type 0} (pads : V → Pads) (rest : V → Streams → Streams) (accepts : V → ℕ → FrameValue → Type 0) (s t : Shape) (rs : List Ready) (kinds : List Kind)
-    → AreReadyKinds kinds s rs t → AllFit kinds s rs → Started pads rest accepts s t rs [] 0
-none_started pads rest accepts s t rs kinds ready fit = record { kinds = kinds; mid = s; done = refl; ready = ready; fit = fit }
+-- none is started yet
+pub none_started : {V : Type 0} (pads : V → Pads) (rest : V → Streams → Streams) (accepts : V → ℕ → FrameValue → Type 0) (s t : Shape) (rs : List ReadyValue) → AreLinked s rs t → Started pads rest accepts s t rs [] 0
+none_started pads rest accepts s t rs linked = record { mid = s; done = refl; linked = linked }
 
 -- ---- a chain that was written back
 
-chain_long : {V : Type 0} (pads : V → Pads) (rest : V → Streams → Streams) (accepts : V → ℕ → FrameValue → Type 0) (low : ℤ) (s t : Shape) (rs : List Ready) (vs : List V) → AllTake pads rest accepts low s rs vs t → length vs ≡ length rs
+chain_long : {V : Type 0} (pads : V → Pads) (rest : V → Streams → Streams) (accepts : V → ℕ → FrameValue → Type 0) (low : ℤ) (s t : Shape) (rs : List ReadyValue) (vs : List V) → AllTake pads rest accepts low s rs vs t → length vs ≡ length rs
 chain_long pads rest accepts low s t [] [] all = refl
 chain_long pads rest accepts low s t [] (v ∷ vs) all = absurd all
 chain_long pads rest accepts low s t (r ∷ rs) [] all = absurd all
 chain_long pads rest accepts low s t (r ∷ rs) (v ∷ vs) all = ap suc (chain_long pads rest accepts low all.1.0 t rs vs all.1.2)
 
 -- the filters that passed a frame stand in the places of those before it
-pub written_back : {V : Type 0} (pads : V → Pads) (rest : V → Streams → Streams) (accepts : V → ℕ → FrameValue → Type 0) (low high : ℤ) (s t : Shape) (rs : List Ready) (vs ws : List V) (n : ℕ) → n ≡ length vs
+pub written_back : {V : Type 0} (pads : V → Pads) (rest : V → Streams → Streams) (accepts : V → ℕ → FrameValue → Type 0) (low high : ℤ) (s t : Shape) (rs : List ReadyValue) (vs ws : List V) (n : ℕ) → n ≡ length vs
     → AllTake pads rest accepts low s rs vs t → AllTake pads rest accepts high s rs ws t → AllTake pads rest accepts high s rs (take n (ws ++ drop (length ws) vs)) t
 written_back {V} pads rest accepts low high s t rs vs ws n e old new =
     let before = chain_long pads rest accepts low s t rs vs old in
@@ -294,18 +266,14 @@ written_back {V} pads rest accepts low high s t rs vs ws n e old new =
 
 -- ---- chains of calls
 
--- the filters of a chain of calls, each of which takes what comes to it
-pub ready_kinds : (calls : List FilterCall) (s t : Shape) (rs : List Ready) → AreReady calls s rs t → IsLawful s → IsVideo s.format → (kinds : List Kind) × AreReadyKinds kinds s rs t × AllFit kinds s rs
-ready_kinds [] s t [] p l v = ([], p, tt)
-ready_kinds [] s t (r ∷ rs) p l v = absurd p
-ready_kinds (c ∷ cs) s t [] p l v = absurd p
-ready_kinds (c ∷ cs) s t (r ∷ rs) p l v =
-    let pictured = ready_pictured p.0.kind s p.1.0 r l v p.0.is_ready p.1.1 in
-    let others = ready_kinds cs p.1.0 t rs p.1.2 pictured.lawful pictured.video in (
-      p.0.kind ∷ others.0,
-      (p.0.is_ready, (p.1.0, p.1.1, others.1)),
-      (l, v, p.0.takes, λ u outs. subst (λ (x : Shape). AllFit others.0 x rs) (only (sym p.1.1 ∙ outs)) others.2),
-    )
+-- the filters of a chain of calls are configured for what comes to them
+pub ready_linked : (calls : List FilterCall) (s t : Shape) (rs : List ReadyValue) → AreReady calls s rs t → AreLinked s rs t
+ready_linked [] s t [] p = p
+ready_linked [] s t (r ∷ rs) p = absurd p
+ready_linked (c ∷ cs) s t [] p = absurd p
+ready_linked (c ∷ cs) s t (r ∷ rs) p =
+    let ready = p.0.is_ready in
+    (ready.ins, ready.outs, subst (λ (u : Shape). AreLinked u rs t) (only (sym p.1.1 ∙ ready.outs)) (ready_linked cs p.1.0 t rs p.1.2))
   where
     only : {a b : Shape} → ◌≡◌ {A = List Shape} (a ∷ []) (b ∷ []) → a ≡ b
     only e = cc

@@ -16,23 +16,24 @@ use Rattle.av_frame.specs.declared.faults.WriteError.{WriteError}
 use Rattle.av_frame.specs.declared.faults.WriteError.TheVariants as write
 use Rattle.av_frame.specs.Frames.{FrameValue}
 use Rattle.avgraph.proofs.ChainLemmas.{through-nil}
-use Rattle.avgraph.proofs.LineLemmas.{header_unique}
-use Rattle.avgraph.specs.HostRuns.{WritesPart}
-use Rattle.avgraph.specs.HeaderTexts.{BeginsHeader, IsWritable, header_text}
-use Rattle.avgraph.specs.FrameTexts.{frames_text, AreFramesFrom}
+use Rattle.y4m_io.proofs.LineLemmas.{header_unique}
+use Rattle.av_host.specs.HostRuns.{WritesPart}
+use Rattle.y4m_io.specs.HeaderTexts.{BeginsHeader, IsWritable, header_text}
+use Rattle.y4m_io.specs.FrameTexts.{frames_text, AreFramesFrom}
 use Rattle.avgraph.specs.Chains.{ChainValue, AreReady, through}
-use Rattle.avgraph.specs.Reading.{Reading, Heads}
-use Rattle.avgraph.specs.Writing.{Writing}
-use Rattle.avgraph.specs.Answers.{Answers, BeginsFile, HasHead, NoHead, BadShape, Damaged, open_text}
+use Rattle.y4m_io.specs.Reading.{Reading, Heads}
+use Rattle.y4m_io.specs.Writing.{Writing}
+use Rattle.avgraph.specs.Answers.{Answers, HasHead, NoHead, BadShape, Damaged}
+use Rattle.y4m_io.specs.Files.{BeginsFile, open_text}
 use Rattle.avgraph.proofs.ReadyLemmas.{shape_fault, chain_writable}
-use Rattle.avgraph.proofs.HeaderLemmas.{header_writable}
+use Rattle.y4m_io.proofs.HeaderLemmas.{header_writable}
 use Rattle.avgraph.specs.Running.{Moves, MovesAll, MovesWhole, MovesPart, IsNoFrames, Runs, passed_text, stop_of_write}
 use Rattle.avgraph.specs.Commands.{LeavesAll, Leaves, OpensWell, OpensFile, CreatesWith, CreatesPart, CreatesFile, KeepsInputs, IsChainFor, StopsShape, StandsIn, PreparesWell, Prepares, Finishes, Breaks, Stops, Commands, stop_of_opening, stop_of_head}
 use Rattle.graph_text.specs.declared.graph.FilterCall.{FilterCall}
-use Rattle.node_core.specs.declared.ready.Ready.{Ready}
-use Rattle.avgraph.specs.declared.fault.Fault.TheVariants.{NotYet, OpenFault, ReadFault, WriteFault}
-use Rattle.avgraph.specs.declared.fault.Stop.{Stop}
-use Rattle.avgraph.specs.declared.fault.Stop.TheVariants as stop
+use Rattle.node_core.specs.Shaping.{ReadyValue}
+use Rattle.av_faults.specs.declared.fault.Fault.TheVariants.{NotYet, OpenFault, ReadFault, WriteFault}
+use Rattle.av_faults.specs.declared.fault.Stop.{Stop}
+use Rattle.av_faults.specs.declared.fault.Stop.TheVariants as stop
 
 -- ---- other inputs
 
@@ -170,7 +171,7 @@ module _ {limit : ℕ} {a b : World} {input : List ℕ} {reader : Reading} {shap
     left_created x e = ap (λ (i : Inputs). i.left reader.id) inputs_stay ∙ left x e
 
     -- a beginning of the header stands in the output
-    begun_header : (calls : List FilterCall) (readies : List Ready) (end : Shape) (count : ℕ) → AreReady calls shape readies end → text ≡ take count (header_text end) → Breaks calls a c input output
+    begun_header : (calls : List FilterCall) (readies : List ReadyValue) (end : Shape) (count : ℕ) → AreReady calls shape readies end → text ≡ take count (header_text end) → Breaks calls a c input output
     begun_header calls readies end count ready e = record {
       put = text;
       leaves = leaves_created;
@@ -201,7 +202,7 @@ module _ {limit : ℕ} {a b : World} {input : List ℕ} {reader : Reading} {shap
               ∙ ap (λ (z : List ℕ). o.line ++ z) (m.inputs.begins tail (left_created x held) ∙ append_assoc (frames_text frames) rest behind);
         }
 
-    module _ (calls : List FilterCall) (readies : List Ready) (end : Shape) (ready : AreReady calls shape readies end) (whole : text ≡ header_text end) where
+    module _ (calls : List FilterCall) (readies : List ReadyValue) (end : Shape) (ready : AreReady calls shape readies end) (whole : text ≡ header_text end) where
       stopped_whole : {d : World} → MovesWhole shape readies c d reader.id id → Breaks calls a d input output
       stopped_whole {d} m = record {
         put = text ++ passed_text readies m.frames;

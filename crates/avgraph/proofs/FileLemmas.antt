@@ -1,61 +1,74 @@
 -- What a file and the filters' calls ask for is one answer or one fault.
-use Rattle.std.proofs.Common.{◌≡◌, ◌+◌, ◌⊎◌, ℕ, List, [], ◌∷◌, Contains, zero, suc, refl, sym, ◌∙◌, ap, subst, arith, inl, inr}
+use Rattle.std.proofs.Common.{◌≡◌, ◌+◌, ◌⊎◌, ℕ, List, [], ◌∷◌, Contains, zero, suc, Result, Ok, Err, refl, sym, ◌∙◌, ap, subst, arith, inl, inr}
 use Rattle.std.proofs.lemmas.List.{take_all}
 use Rattle.av_base.specs.declared.shapes.Shape.{Shape}
 use Rattle.av_base.specs.declared.formats.Format.{Format}
 use Rattle.av_frame.specs.declared.refusals.ConfigError.{ConfigError}
 use Rattle.graph_text.specs.declared.graph.FilterCall.{FilterCall}
 use Rattle.node_core.specs.declared.kind.Kind.{Kind}
-use Rattle.node_core.specs.declared.ready.Ready.{Ready}
-use Rattle.node_core.specs.declared.ready.Settings.{Settings}
+use Rattle.node_core.specs.Shaping.{ReadyValue, Takes}
+use Rattle.node_core.specs.Filters.{frame_filters}
+use Rattle.node_core.specs.FilterLaws.{frame_filter_laws}
 use Rattle.node_core.specs.Kinds.{IsKind}
-use Rattle.node_core.specs.Shaping.{Takes, AreSettings, IsConfigFault}
-use Rattle.node_core.proofs.KindLaws.{one_meaning, one_outcome}
-use Rattle.node_core.proofs.ShapeLaws.{format_kept}
+use Rattle.node_core.proofs.LawLemmas.{one_meaning, one_outcome}
 use Rattle.avgraph.specs.Chains.{IsReadied, AreReady}
-use Rattle.avgraph.specs.FrameTexts.{frames_text}
-use Rattle.avgraph.specs.Faults.{config_stop}
-use Rattle.avgraph.specs.Answers.{Answers, AreTaking, IsUnready, RefusesShape, NoFormat, Unready, HasHead, IsFileFault, NoHead, BadShape, Damaged}
-use Rattle.avgraph.specs.declared.fault.Fault.{Fault}
-use Rattle.avgraph.specs.declared.fault.Stop.{Stop}
-use Rattle.avgraph.specs.declared.fault.Stop.TheVariants as stop
-use Rattle.avgraph.proofs.LineLemmas.{header_unique}
+use Rattle.y4m_io.specs.FrameTexts.{frames_text}
+use Rattle.avgraph.specs.Stops.{config_stop}
+use Rattle.avgraph.specs.Answers.{Answers, AreTaking, IsRefused, IsUnready, RefusesShape, NoFormat, Unready, HasHead, IsFileFault, NoHead, BadShape, Damaged}
+use Rattle.av_faults.specs.declared.fault.Fault.{Fault}
+use Rattle.av_faults.specs.declared.fault.Stop.{Stop}
+use Rattle.av_faults.specs.declared.fault.Stop.TheVariants as stop
+use Rattle.y4m_io.proofs.LineLemmas.{header_unique}
 
 -- ---- one filter
 
-same_ready : (r q : Ready) → r.settings ≡ q.settings → r.ins ≡ q.ins → r.outs ≡ q.outs → r ≡ q
-same_ready r q a b c =
-    ap (λ (t : Settings). record r { settings = t }) a ∙ (ap (λ (i : List Shape). record { settings = q.settings; ins = i; outs = r.outs }) b
-    ∙ ap (λ (o : List Shape). record { settings = q.settings; ins = q.ins; outs = o }) c)
+same_ready : (r q : ReadyValue) (s : Shape) → r.settings ≡ q.settings → r.ins ≡ s ∷ [] → q.ins ≡ s ∷ [] → r.outs ≡ frame_filters.making.shape r.settings s ∷ []
+    → q.outs ≡ frame_filters.making.shape q.settings s ∷ [] → r ≡ q
+same_ready r q s a b c d e =
+    ap (λ (i : List Shape). record r { ins = i }) b ∙ (ap (λ (o : List Shape). let u : ReadyValue = record { settings = r.settings; ins = s ∷ []; outs = o } in u) d
+    ∙ (ap (λ (t : frame_filters.Settings). let u : ReadyValue = record { settings = t; ins = s ∷ []; outs = frame_filters.making.shape t s ∷ [] } in u) a
+    ∙ (ap (λ (o : List Shape). let u : ReadyValue = record { settings = q.settings; ins = s ∷ []; outs = o } in u) (sym e) ∙ ap (λ (i : List Shape). record q { ins = i }) (sym c))))
+
+settings_is : {a b : frame_filters.Settings} → ◌≡◌ {A = Result frame_filters.Settings ConfigError} (Ok a) (Ok b) → a ≡ b
+settings_is e = cc
+
+error_is : {e f : ConfigError} → ◌≡◌ {A = Result frame_filters.Settings ConfigError} (Err e) (Err f) → e ≡ f
+error_is e = cc
 
 module _ (call : FilterCall) (s : Shape) where
-  -- what the filter that was made ready takes, gives and refuses, any other reading of the call does too
-  settled : (r : Ready) (kind : Kind) (p : IsReadied call s r) → IsKind call kind → AreSettings kind s r.settings p.is_ready.out
-  settled r kind p is = let ready = p.is_ready in (one_meaning.one call p.kind kind p.is_kind is).settles s r.settings ready.out ready.settings
+  -- what one reading of the call settles, the other settles too
+  follows : (k l : Kind) (r : Result frame_filters.Settings ConfigError) → IsKind call k → IsKind call l → frame_filters.making.settles k.options s r → frame_filters.making.settles l.options s r
+  follows k l r p q = (one_meaning.one call k l p q).settles s r
 
-  ready_one : (r q : Ready) → IsReadied call s r → IsReadied call s q → r ≡ q
+  ready_one : (r q : ReadyValue) → IsReadied call s r → IsReadied call s q → r ≡ q
   ready_one r q p k =
       let one = p.is_ready in
       let other = k.is_ready in
-      let same = one_outcome.one call k.kind k.is_kind s r.settings q.settings one.out other.out (settled r k.kind p k.is_kind) other.settings in
-      same_ready r q same.0 (one.ins ∙ sym other.ins) (one.outs ∙ (ap (λ (o : Shape). o ∷ []) same.1 ∙ sym other.outs))
+      let outcome = one_outcome call k.kind s k.is_kind k.picture k.takes in
+      let same = outcome.one (Ok r.settings) (Ok q.settings) (follows p.kind k.kind (Ok r.settings) p.is_kind k.is_kind one.settles) other.settles in
+      same_ready r q s (settings_is same) one.ins other.ins one.outs other.outs
 
-  ready_or_fault : (r : Ready) (kind : Kind) (e : ConfigError) → IsReadied call s r → IsKind call kind → IsConfigFault kind s e → ⊥
-  ready_or_fault r kind e p is fault = one_outcome.not_both call kind is s r.settings p.is_ready.out e (settled r kind p is) fault
+  ready_or_fault : (r : ReadyValue) (e : ConfigError) → IsReadied call s r → IsRefused call s e → ⊥
+  ready_or_fault r e p k =
+      let outcome = one_outcome call k.kind s k.is_kind k.picture k.takes in
+      let same = outcome.one (Ok r.settings) (Err e) (follows p.kind k.kind (Ok r.settings) p.is_kind k.is_kind p.is_ready.settles) k.fault in
+      cc
 
-  fault_one : (k l : Kind) (e f : ConfigError) → IsKind call k → IsConfigFault k s e → IsKind call l → IsConfigFault l s f → e ≡ f
-  fault_one k l e f p is q also = one_outcome.one_fault call l q s e f ((one_meaning.one call k l p q).refuses s e is) also
+  fault_one : (e f : ConfigError) → IsRefused call s e → IsRefused call s f → e ≡ f
+  fault_one e f p k =
+      let outcome = one_outcome call k.kind s k.is_kind k.picture k.takes in
+      error_is (outcome.one (Err e) (Err f) (follows p.kind k.kind (Err e) p.is_kind k.is_kind p.fault) k.fault)
 
 -- one list, of one shape each
 same_shape : {a b : Shape} → ◌≡◌ {A = List Shape} (a ∷ []) (b ∷ []) → a ≡ b
 same_shape e = cc
 
-outs_one : {r q : Ready} {t u : Shape} → r ≡ q → r.outs ≡ t ∷ [] → q.outs ≡ u ∷ [] → t ≡ u
-outs_one e p q = same_shape (sym p ∙ (ap (λ (x : Ready). x.outs) e ∙ q))
+outs_one : {r q : ReadyValue} {t u : Shape} → r ≡ q → r.outs ≡ t ∷ [] → q.outs ≡ u ∷ [] → t ≡ u
+outs_one e p q = same_shape (sym p ∙ (ap (λ (x : ReadyValue). x.outs) e ∙ q))
 
 -- ---- chains
 
-pub chain_one : (calls : List FilterCall) (s t u : Shape) (rs qs : List Ready) → AreReady calls s rs t → AreReady calls s qs u → (rs ≡ qs) × (t ≡ u)
+pub chain_one : (calls : List FilterCall) (s t u : Shape) (rs qs : List ReadyValue) → AreReady calls s rs t → AreReady calls s qs u → (rs ≡ qs) × (t ≡ u)
 chain_one [] s t u [] [] p q = (refl, p ∙ sym q)
 chain_one [] s t u [] (x ∷ xs) p q = absurd q
 chain_one [] s t u (r ∷ rs) qs p q = absurd p
@@ -65,20 +78,20 @@ chain_one (c ∷ cs) s t u (r ∷ rs) (x ∷ xs) p q =
     let first = ready_one c s r x p.0 q.0 in
     let middle = outs_one first p.1.1 q.1.1 in
     let others = chain_one cs q.1.0 t u rs xs (subst (λ (m : Shape). AreReady cs m rs t) middle p.1.2) q.1.2 in
-    (ap (λ (y : Ready). y ∷ rs) first ∙ ap (λ (ys : List Ready). x ∷ ys) others.0, others.1)
+    (ap (λ (y : ReadyValue). y ∷ rs) first ∙ ap (λ (ys : List ReadyValue). x ∷ ys) others.0, others.1)
 
-chain_or_unready : (n : ℕ) (calls : List FilterCall) (s t : Shape) (rs : List Ready) (stops : Stop) → AreReady calls s rs t → IsUnready n calls s stops → ⊥
+chain_or_unready : (n : ℕ) (calls : List FilterCall) (s t : Shape) (rs : List ReadyValue) (stops : Stop) → AreReady calls s rs t → IsUnready n calls s stops → ⊥
 chain_or_unready n [] s t rs stops p q = q
 chain_or_unready n (c ∷ cs) s t [] stops p q = p
-chain_or_unready n (c ∷ cs) s t (r ∷ rs) stops p (inl q) = ready_or_fault c s r q.0 q.1 p.0 q.2 q.3
+chain_or_unready n (c ∷ cs) s t (r ∷ rs) stops p (inl q) = ready_or_fault c s r q.0 p.0 q.1
 chain_or_unready n (c ∷ cs) s t (r ∷ rs) stops p (inr q) =
     chain_or_unready (n + 1) cs q.1 t rs stops (subst (λ (m : Shape). AreReady cs m rs t) (outs_one (ready_one c s r q.0 p.0 q.2) p.1.1 q.3) p.1.2) q.4
 
 unready_one : (n : ℕ) (calls : List FilterCall) (s : Shape) (a b : Stop) → IsUnready n calls s a → IsUnready n calls s b → a ≡ b
 unready_one n [] s a b p q = absurd p
-unready_one n (c ∷ cs) s a b (inl p) (inl q) = p.4 ∙ (ap (config_stop n) (fault_one c s p.0 q.0 p.1 q.1 p.2 p.3 q.2 q.3) ∙ sym q.4)
-unready_one n (c ∷ cs) s a b (inl p) (inr q) = absurd (ready_or_fault c s q.0 p.0 p.1 q.2 p.2 p.3)
-unready_one n (c ∷ cs) s a b (inr p) (inl q) = absurd (ready_or_fault c s p.0 q.0 q.1 p.2 q.2 q.3)
+unready_one n (c ∷ cs) s a b (inl p) (inl q) = p.2 ∙ (ap (config_stop n) (fault_one c s p.0 q.0 p.1 q.1) ∙ sym q.2)
+unready_one n (c ∷ cs) s a b (inl p) (inr q) = absurd (ready_or_fault c s q.0 p.0 q.2 p.1)
+unready_one n (c ∷ cs) s a b (inr p) (inl q) = absurd (ready_or_fault c s p.0 q.0 p.2 q.1)
 unready_one n (c ∷ cs) s a b (inr p) (inr q) =
     unready_one (n + 1) cs q.1 a b (subst (λ (m : Shape). IsUnready (n + 1) cs m a) (outs_one (ready_one c s p.0 q.0 p.2 q.2) p.3 q.3) p.4) q.4
 
@@ -87,8 +100,12 @@ pub contains_split : (c x : FilterCall) (cs : List FilterCall) → Contains (c �
 contains_split c x cs (zero, within, is) = inl is
 contains_split c x cs (suc k, within, is) = inr (k, omega arith, is)
 
+-- a filter's output has the format of its input
+pub readied_format : (call : FilterCall) (s u : Shape) (r : ReadyValue) → IsReadied call s r → r.outs ≡ u ∷ [] → u.format ≡ s.format
+readied_format call s u r p outs = ap (λ (x : Shape). x.format) (same_shape (sym outs ∙ p.is_ready.outs)) ∙ (frame_filter_laws.making.stream r.settings s).format
+
 -- a chain that is ready takes the format
-pub chain_takes : (calls : List FilterCall) (s t : Shape) (rs : List Ready) → AreReady calls s rs t → AreTaking calls s.format
+pub chain_takes : (calls : List FilterCall) (s t : Shape) (rs : List ReadyValue) → AreReady calls s rs t → AreTaking calls s.format
 chain_takes [] s t rs p u = let c = u.is_call in let n = c.1 in omega arith
 chain_takes (c ∷ cs) s t [] p u = p
 chain_takes (c ∷ cs) s t (r ∷ rs) p u = by_place (chain_takes cs p.1.0 t rs p.1.2) (contains_split c u.call cs u.is_call)
@@ -102,7 +119,7 @@ chain_takes (c ∷ cs) s t (r ∷ rs) p u = by_place (chain_takes cs p.1.0 t rs 
           is_call = within;
           kind = u.kind;
           is_kind = u.is_kind;
-          untaken = subst (λ (f : Format). ¬ Takes u.kind f) (sym (format_kept p.0.kind s p.1.0 r p.0.is_ready p.1.1)) u.untaken;
+          untaken = subst (λ (f : Format). ¬ Takes u.kind f) (sym (readied_format c s p.1.0 r p.0 p.1.1)) u.untaken;
         })
 
 -- ---- shapes
@@ -110,7 +127,7 @@ chain_takes (c ∷ cs) s t (r ∷ rs) p u = by_place (chain_takes cs p.1.0 t rs 
 fault_is : {f g : Fault} → stop.Fault f ≡ stop.Fault g → f ≡ g
 fault_is e = cc
 
-pub chain_or_refused : (calls : List FilterCall) (s t : Shape) (rs : List Ready) (f : Fault) → AreReady calls s rs t → RefusesShape calls s f → ⊥
+pub chain_or_refused : (calls : List FilterCall) (s t : Shape) (rs : List ReadyValue) (f : Fault) → AreReady calls s rs t → RefusesShape calls s f → ⊥
 chain_or_refused calls s t rs f p (NoFormat u e) = chain_takes calls s t rs p u
 chain_or_refused calls s t rs f p (Unready taking u) = chain_or_unready 0 calls s t rs (stop.Fault f) p u
 
@@ -141,7 +158,7 @@ answer_or_fault {limit} {calls} {bytes} {out} {f} a (BadShape s head refused) =
 answer_or_fault {limit} {calls} {bytes} {out} a (Damaged s rs t head ready none e) = none out a
 
 -- a shape that is refused, and a chain that is ready for the same file
-refused_or_ready : (limit : ℕ) (calls : List FilterCall) (bytes : List ℕ) (s t u : Shape) (rs : List Ready) (f : Fault) → HasHead limit bytes s → RefusesShape calls s f → HasHead limit bytes t → AreReady calls t rs u → ⊥
+refused_or_ready : (limit : ℕ) (calls : List FilterCall) (bytes : List ℕ) (s t u : Shape) (rs : List ReadyValue) (f : Fault) → HasHead limit bytes s → RefusesShape calls s f → HasHead limit bytes t → AreReady calls t rs u → ⊥
 refused_or_ready limit calls bytes s t u rs f head refused other ready =
     chain_or_refused calls t u rs f ready (subst (λ (x : Shape). RefusesShape calls x f) (head_one limit bytes s t head other) refused)
 

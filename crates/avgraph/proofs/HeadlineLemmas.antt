@@ -6,17 +6,18 @@ use Rattle.std.proofs.lemmas.List.{append-nil}
 use Rattle.av_host.specs.World.{World, Inputs, Outputs, Faults}
 use Rattle.av_host.specs.Calls.{Says, Rises, RaisesSayings}
 use Rattle.av_host.specs.declared.host.Failed.{Failed}
-use Rattle.avgraph.specs.HostRuns.{SaysPart}
-use Rattle.avgraph.specs.FrameTexts.{frames_text}
+use Rattle.av_host.specs.HostRuns.{SaysPart}
+use Rattle.y4m_io.specs.FrameTexts.{frames_text}
 use Rattle.avgraph.specs.Answers.{Answers, IsReadyFor}
 use Rattle.avgraph.proofs.FileLemmas.{answer_or_fault, one_file_fault}
 use Rattle.graph_text.specs.declared.graph.FilterCall.{FilterCall}
 use Rattle.avgraph.specs.Requests.{Request, IsRequest, IsRefused, IsRefusedAtOnce}
-use Rattle.avgraph.specs.declared.fault.Fault.{Fault}
-use Rattle.avgraph.specs.declared.fault.Fault.TheVariants.{OpenFault, ReadFault, WriteFault}
-use Rattle.avgraph.specs.declared.fault.Stop.{Stop}
-use Rattle.avgraph.specs.declared.fault.Stop.TheVariants as stop
-use Rattle.avgraph.specs.Faults.{CountsStop, stop_line, stop_status}
+use Rattle.av_faults.specs.declared.fault.Fault.{Fault}
+use Rattle.av_faults.specs.declared.fault.Fault.TheVariants.{OpenFault, ReadFault, WriteFault}
+use Rattle.av_faults.specs.declared.fault.Stop.{Stop}
+use Rattle.av_faults.specs.declared.fault.Stop.TheVariants as stop
+use Rattle.av_faults.specs.Faults.{stop_line, stop_status}
+use Rattle.avgraph.specs.Stops.{CountsStop}
 use Rattle.avgraph.specs.Commands.{Commands, KeepsInputs, LeavesAll, Finishes, IsBegun, Stops}
 use Rattle.avgraph.specs.Headline.{Prints, Reports, Obeys, Refuses, HasCause, IsQuiet, Done, Completes, Keeps, Names, SaysLine, SaysStatus}
 

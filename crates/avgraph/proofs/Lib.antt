@@ -1,13 +1,4 @@
-mod Pieces
-mod FieldLemmas
 mod ChainLemmas
-mod RowLemmas
-mod FrameLemmas
-mod ReadLemmas
-mod WriteLemmas
-mod NumeralLemmas
-mod HeaderLemmas
-mod LineLemmas
 mod FileLemmas
 mod ReadyLemmas
 mod RunLemmas
@@ -16,12 +7,4 @@ mod HeadlineLemmas
 mod ArgCountLemmas
 mod RequestLemmas
 mod ObeyLemmas
-mod LawLemmas
-mod WrittenLemmas
-mod SlowLemmas
-mod WordRoleLemmas
-mod WordValueLemmas
-mod WordCheckLemmas
-mod CommandPartLemmas
-mod WordLawLemmas
 mod AnswerLaws

@@ -4,12 +4,13 @@ use Rattle.av_host.specs.World.{World, Faults}
 use Rattle.av_frame.specs.declared.refusals.OptionError.{OptionError}
 use Rattle.av_frame.specs.declared.refusals.OptionError.TheVariants as option
 use Rattle.graph_text.specs.declared.graph.FilterCall.{FilterCall}
-use Rattle.avgraph.specs.declared.fault.Fault.{Fault}
-use Rattle.avgraph.specs.declared.fault.Fault.TheVariants.{NotYet, OpenFault, ReadFault, WriteFault}
-use Rattle.avgraph.specs.declared.fault.Stop.{Stop}
-use Rattle.avgraph.specs.declared.fault.Stop.TheVariants as stop
-use Rattle.avgraph.specs.Faults.{IsOfText, option_stop, stop_status, CountsStop}
-use Rattle.avgraph.specs.Words.{words_of}
+use Rattle.av_faults.specs.declared.fault.Fault.{Fault}
+use Rattle.av_faults.specs.declared.fault.Fault.TheVariants.{NotYet, OpenFault, ReadFault, WriteFault}
+use Rattle.av_faults.specs.declared.fault.Stop.{Stop}
+use Rattle.av_faults.specs.declared.fault.Stop.TheVariants as stop
+use Rattle.av_faults.specs.Faults.{IsOfText, stop_status}
+use Rattle.avgraph.specs.Stops.{option_stop, CountsStop}
+use Rattle.avgraph.specs.FirstForm.{words_of}
 use Rattle.avgraph.specs.Requests.{SaysFilters, IsRefusedCall, RefusesCalls, TooMany, BadCall, NoChain, RefusesText, TooLong, NoReading, BadCalls, StopsText, Request, IsRequest, IsRefused, IsRefusedAtOnce}
 use Rattle.avgraph.specs.Commands.{Commands, LeavesAll}
 use Rattle.avgraph.specs.Headline.{Obeys}

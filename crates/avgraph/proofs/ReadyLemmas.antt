@@ -8,26 +8,27 @@ use Rattle.av_base.specs.declared.shapes.Shape.{Shape}
 use Rattle.av_base.specs.declared.shapes.Props.{Props}
 use Rattle.av_base.specs.declared.shapes.Props.TheVariants as props
 use Rattle.av_host.specs.World.{Faults}
+use Rattle.av_frame.specs.Limits.{IsPictureShape, IsPictured}
+use Rattle.av_frame.specs.Meanings.{AreOfStream, IsOfStream}
 use Rattle.av_frame.specs.declared.refusals.ConfigError.{ConfigError}
 use Rattle.av_frame.specs.declared.refusals.ConfigError.TheVariants as config
 use Rattle.graph_text.specs.declared.graph.FilterCall.{FilterCall}
-use Rattle.filt_video.specs.Geometry.{resized_props}
-use Rattle.filt_video.specs.Transpose.{turned_props}
 use Rattle.node_core.specs.declared.kind.Kind.{Kind}
-use Rattle.node_core.specs.declared.ready.Ready.{Ready}
+use Rattle.node_core.specs.Shaping.{ReadyValue, Takes, IsReady, IsConfigFault}
 use Rattle.node_core.specs.Kinds.{IsKind}
-use Rattle.node_core.specs.Shaping.{Takes, IsReady, IsConfigFault}
-use Rattle.node_core.proofs.KindLaws.{one_meaning}
-use Rattle.node_core.proofs.ShapeLaws.{IsSized, ready_sized, ready_pictured}
+use Rattle.node_core.proofs.LawLemmas.{one_meaning}
+use Rattle.node_core.specs.Filters.{frame_filters}
+use Rattle.node_core.specs.FilterLaws.{frame_filter_laws}
 use Rattle.avgraph.specs.Chains.{IsReadied, AreReady}
-use Rattle.avgraph.specs.HeaderTexts.{HasHeader, IsWritable}
-use Rattle.avgraph.specs.Faults.{IsOfFile, config_stop, CountsStop}
-use Rattle.avgraph.specs.Answers.{IsUntaken, AreTaking, IsUnready, RefusesShape, NoFormat, Unready}
+use Rattle.y4m_io.specs.HeaderTexts.{HasHeader, IsWritable}
+use Rattle.av_faults.specs.Faults.{IsOfFile}
+use Rattle.avgraph.specs.Stops.{config_stop, CountsStop}
+use Rattle.avgraph.specs.Answers.{IsUntaken, AreTaking, IsRefused, IsUnready, RefusesShape, NoFormat, Unready}
 use Rattle.avgraph.specs.Commands.{StopsShape}
-use Rattle.avgraph.specs.declared.fault.Fault.{Fault}
-use Rattle.avgraph.specs.declared.fault.Fault.TheVariants.{OpenFault, ReadFault, WriteFault}
-use Rattle.avgraph.specs.declared.fault.Stop.{Stop}
-use Rattle.avgraph.specs.declared.fault.Stop.TheVariants as stop
+use Rattle.av_faults.specs.declared.fault.Fault.{Fault}
+use Rattle.av_faults.specs.declared.fault.Fault.TheVariants.{OpenFault, ReadFault, WriteFault}
+use Rattle.av_faults.specs.declared.fault.Stop.{Stop}
+use Rattle.av_faults.specs.declared.fault.Stop.TheVariants as stop
 use Rattle.avgraph.proofs.FileLemmas.{contains_split}
 
 -- ---- the faults of shapes
@@ -48,7 +49,7 @@ config_fault n config.NoMemory f e = no_fault f e
 
 unready_fault : (n : ℕ) (calls : List FilterCall) (s : Shape) (f : Fault) → IsUnready n calls s (stop.Fault f) → IsOfFile f
 unready_fault n [] s f h = absurd h
-unready_fault n (c ∷ cs) s f (inl h) = config_fault n h.1 f (sym h.4)
+unready_fault n (c ∷ cs) s f (inl h) = config_fault n h.0 f (sym h.2)
 unready_fault n (c ∷ cs) s f (inr h) = unready_fault (n + 1) cs h.1 f h.4
 
 pub shape_fault : {calls : List FilterCall} {s : Shape} {f : Fault} → RefusesShape calls s f → IsOfFile f
@@ -116,18 +117,18 @@ few_kinds calls kinds few zip = let same = zip_length calls kinds zip in omega a
 
 -- ---- one filter more
 
-chain_push : (calls : List FilterCall) (s u w : Shape) (rs : List Ready) (call : FilterCall) (r : Ready) → AreReady calls s rs u → IsReadied call u r → r.outs ≡ w ∷ [] → AreReady (calls ++ call ∷ []) s (rs ++ r ∷ []) w
+chain_push : (calls : List FilterCall) (s u w : Shape) (rs : List ReadyValue) (call : FilterCall) (r : ReadyValue) → AreReady calls s rs u → IsReadied call u r → r.outs ≡ w ∷ [] → AreReady (calls ++ call ∷ []) s (rs ++ r ∷ []) w
 chain_push [] s u w [] call r p is outs = (subst (λ (x : Shape). IsReadied call x r) p is, (w, outs, refl))
 chain_push [] s u w (x ∷ xs) call r p is outs = absurd p
 chain_push (c ∷ cs) s u w [] call r p is outs = absurd p
 chain_push (c ∷ cs) s u w (x ∷ xs) call r p is outs = (p.0, (p.1.0, p.1.1, chain_push cs p.1.0 u w xs call r p.1.2 is outs))
 
-pub chain_more : (calls : List FilterCall) (kinds : List Kind) (i : ℕ) (kind : Kind) (s u w : Shape) (rs : List Ready) (r : Ready) → i < length kinds → kind ≡ get_or kinds i kind → AllZip IsKind calls kinds
-    → AreReady (take i calls) s rs u → Takes kind u.format → IsReady kind u r → r.outs ≡ w ∷ [] → AreReady (take (i + 1) calls) s (rs ++ r ∷ []) w
-chain_more calls kinds i kind s u w rs r within is zip p takes ready outs =
+pub chain_more : (calls : List FilterCall) (kinds : List Kind) (i : ℕ) (kind : Kind) (s u w : Shape) (rs : List ReadyValue) (r : ReadyValue) → i < length kinds → kind ≡ get_or kinds i kind → AllZip IsKind calls kinds
+    → AreReady (take i calls) s rs u → IsPictureShape u → Takes kind u.format → IsReady kind u r → r.outs ≡ w ∷ [] → AreReady (take (i + 1) calls) s (rs ++ r ∷ []) w
+chain_more calls kinds i kind s u w rs r within is zip p picture takes ready outs =
     let call = call_at calls kinds i kind within is zip in
     let e : take (i + 1) calls ≡ take i calls ++ call.0 ∷ [] = take_more calls i call.0 call.1 ∙ ap (λ (c : FilterCall). take i calls ++ c ∷ []) call.2 in
-    rw e (chain_push (take i calls) s u w rs call.0 r p (record { kind = kind; is_kind = call.3; takes = takes; is_ready = ready }) outs)
+    rw e (chain_push (take i calls) s u w rs call.0 r p (record { kind = kind; is_kind = call.3; picture = picture; takes = takes; is_ready = ready }) outs)
   where
     call_at : (cs : List FilterCall) (ks : List Kind) (j : ℕ) (k : Kind) → j < length ks → k ≡ get_or ks j k → AllZip IsKind cs ks → (call : FilterCall) × (j < length cs) × (get_or cs j call ≡ call) × IsKind call k
     call_at [] [] j k less e z = absurd (omega arith)
@@ -139,30 +140,30 @@ chain_more calls kinds i kind s u w rs r within is zip p takes ready outs =
         (at.0, (let n = at.1 in omega arith), at.2, at.3)
 
 -- the filter behind a chain can't be made ready
-unready_from : (n : ℕ) (calls : List FilterCall) (kinds : List Kind) (i : ℕ) (kind : Kind) (s u : Shape) (rs : List Ready) (e : ConfigError) → i < length kinds → kind ≡ get_or kinds i kind → AllZip IsKind calls kinds
-    → AreReady (take i calls) s rs u → IsConfigFault kind u e → IsUnready n calls s (config_stop (n + i) e)
-unready_from n [] [] i kind s u rs e within is zip p h = absurd (omega arith)
-unready_from n [] (k ∷ ks) i kind s u rs e within is zip p h = absurd zip
-unready_from n (c ∷ cs) [] i kind s u rs e within is zip p h = absurd zip
-unready_from n (c ∷ cs) (k ∷ ks) zero kind s u [] e within is zip p h =
-    inl (kind, e, subst (IsKind c) (sym is) zip.0, subst (λ (x : Shape). IsConfigFault kind x e) p h, ap (λ (m : ℕ). config_stop m e) (let z : n + 0 ≡ n = omega arith in z))
-unready_from n (c ∷ cs) (k ∷ ks) zero kind s u (r ∷ rs) e within is zip p h = absurd p
-unready_from n (c ∷ cs) (k ∷ ks) (suc i) kind s u [] e within is zip p h = absurd p
-unready_from n (c ∷ cs) (k ∷ ks) (suc i) kind s u (r ∷ rs) e within is zip p h =
+unready_from : (n : ℕ) (calls : List FilterCall) (kinds : List Kind) (i : ℕ) (kind : Kind) (s u : Shape) (rs : List ReadyValue) (e : ConfigError) → i < length kinds → kind ≡ get_or kinds i kind → AllZip IsKind calls kinds
+    → AreReady (take i calls) s rs u → IsPictureShape u → Takes kind u.format → IsConfigFault kind u e → IsUnready n calls s (config_stop (n + i) e)
+unready_from n [] [] i kind s u rs e within is zip p picture takes h = absurd (omega arith)
+unready_from n [] (k ∷ ks) i kind s u rs e within is zip p picture takes h = absurd zip
+unready_from n (c ∷ cs) [] i kind s u rs e within is zip p picture takes h = absurd zip
+unready_from n (c ∷ cs) (k ∷ ks) zero kind s u [] e within is zip p picture takes h =
+    inl (e, subst (λ (x : Shape). IsRefused c x e) p (record { kind = kind; is_kind = subst (IsKind c) (sym is) zip.0; picture = picture; takes = takes; fault = h }), ap (λ (m : ℕ). config_stop m e) (let z : n + 0 ≡ n = omega arith in z))
+unready_from n (c ∷ cs) (k ∷ ks) zero kind s u (r ∷ rs) e within is zip p picture takes h = absurd p
+unready_from n (c ∷ cs) (k ∷ ks) (suc i) kind s u [] e within is zip p picture takes h = absurd p
+unready_from n (c ∷ cs) (k ∷ ks) (suc i) kind s u (r ∷ rs) e within is zip p picture takes h =
     inr (
       r,
       p.1.0,
       p.0,
       p.1.1,
       subst (λ (m : ℕ). IsUnready (n + 1) cs p.1.0 (config_stop m e)) (let z : (n + 1) + i ≡ n + suc i = omega arith in z)
-          (unready_from (n + 1) cs ks i kind p.1.0 u rs e (omega arith) is zip.1 p.1.2 h),
+          (unready_from (n + 1) cs ks i kind p.1.0 u rs e (omega arith) is zip.1 p.1.2 picture takes h),
     )
 
-pub chain_unready : (calls : List FilterCall) (kinds : List Kind) (i : ℕ) (kind : Kind) (s u : Shape) (rs : List Ready) (e : ConfigError) → i < length kinds → kind ≡ get_or kinds i kind → AllZip IsKind calls kinds
-    → AreReady (take i calls) s rs u → (e ≡ config.NoMemory) ⊎ IsConfigFault kind u e → (config_stop i e ≡ stop.NoMemory) ⊎ IsUnready 0 calls s (config_stop i e)
-chain_unready calls kinds i kind s u rs e within is zip p (inl h) = inl (ap (config_stop i) h)
-chain_unready calls kinds i kind s u rs e within is zip p (inr h) =
-    inr (subst (λ (m : ℕ). IsUnready 0 calls s (config_stop m e)) (let z : 0 + i ≡ i = omega arith in z) (unready_from 0 calls kinds i kind s u rs e within is zip p h))
+pub chain_unready : (calls : List FilterCall) (kinds : List Kind) (i : ℕ) (kind : Kind) (s u : Shape) (rs : List ReadyValue) (e : ConfigError) → i < length kinds → kind ≡ get_or kinds i kind → AllZip IsKind calls kinds
+    → AreReady (take i calls) s rs u → IsPictureShape u → Takes kind u.format → (e ≡ config.NoMemory) ⊎ IsConfigFault kind u e → (config_stop i e ≡ stop.NoMemory) ⊎ IsUnready 0 calls s (config_stop i e)
+chain_unready calls kinds i kind s u rs e within is zip p picture takes (inl h) = inl (ap (config_stop i) h)
+chain_unready calls kinds i kind s u rs e within is zip p picture takes (inr h) =
+    inr (subst (λ (m : ℕ). IsUnready 0 calls s (config_stop m e)) (let z : 0 + i ≡ i = omega arith in z) (unready_from 0 calls kinds i kind s u rs e within is zip p picture takes h))
 
 -- ---- what stops the making ready
 
@@ -173,28 +174,33 @@ unready_stop calls s stop.NoMemory taking h = tt
 
 -- ---- what a file can hold
 
-has_resized : (f : Format) (p : Props) (w h : ℕ) → HasHeader f p → HasHeader f (resized_props w h p)
-has_resized (format.Video f) (props.Video p) w h has = has
-has_resized (format.Video f) (props.Audio p) w h has = absurd has
-has_resized (format.Audio f) p w h has = absurd has
+-- a header can be written for each shape of a stream
+has_header : (f : Format) (p q : Props) → AreOfStream p q → HasHeader f p → HasHeader f q
+has_header (format.Video f) (props.Video p) (props.Video q) same has = (has.0, rw same.0 has.1)
+has_header (format.Video f) (props.Video p) (props.Audio q) same has = absurd same
+has_header (format.Video f) (props.Audio p) q same has = absurd has
+has_header (format.Audio f) p q same has = absurd has
 
-has_turned : (f : Format) (p : Props) → HasHeader f p → HasHeader f (turned_props p)
-has_turned (format.Video f) (props.Video p) has = has
-has_turned (format.Video f) (props.Audio p) has = absurd has
-has_turned (format.Audio f) p has = absurd has
+stream_header : (s u : Shape) → IsOfStream s u → HasHeader s.format s.props → HasHeader u.format u.props
+stream_header s u same has = subst (λ (f : Format). HasHeader f u.props) (sym same.format) (has_header s.format s.props u.props same.props has)
 
-has_sized : (s u : Shape) → IsSized s u → HasHeader s.format s.props → HasHeader u.format u.props
-has_sized s u (inl e) has = subst (λ (x : Shape). HasHeader x.format x.props) (sym e) has
-has_sized s u (inr (inl e)) has = subst (λ (x : Shape). HasHeader x.format x.props) (sym e.2) (has_resized s.format s.props e.0 e.1 has)
-has_sized s u (inr (inr e)) has = subst (λ (x : Shape). HasHeader x.format x.props) (sym e) (has_turned s.format s.props has)
+readied_writable : (c : FilterCall) (s u : Shape) (r : ReadyValue) → IsReadied c s r → r.outs ≡ u ∷ [] → IsWritable s → IsWritable u
+readied_writable c s u r p outs w =
+    subst IsWritable (only (sym p.is_ready.outs ∙ outs)) (record {
+      lawful = pictured.lawful;
+      video = pictured.video;
+      limits = pictured.limits;
+      header = stream_header s (frame_filters.making.shape r.settings s) (frame_filter_laws.making.stream r.settings s) w.header;
+    })
+  where
+    only : {a b : Shape} → ◌≡◌ {A = List Shape} (a ∷ []) (b ∷ []) → a ≡ b
+    only e = cc
 
-ready_writable : (k : Kind) (s u : Shape) (r : Ready) → IsReady k s r → r.outs ≡ u ∷ [] → IsWritable s → IsWritable u
-ready_writable k s u r p outs w =
-    let pictured = ready_pictured k s u r w.lawful w.video p outs in
-    record { lawful = pictured.lawful; video = pictured.video; limits = pictured.limits; header = has_sized s u (ready_sized k s u r p outs) w.header }
+    pictured : IsPictured (frame_filters.making.shape r.settings s)
+    pictured = frame_filter_laws.making.pictured r.settings s (record { options = p.kind.options; picture = p.picture; takes = p.takes; settles = p.is_ready.settles })
 
-pub chain_writable : (calls : List FilterCall) (s t : Shape) (rs : List Ready) → AreReady calls s rs t → IsWritable s → IsWritable t
+pub chain_writable : (calls : List FilterCall) (s t : Shape) (rs : List ReadyValue) → AreReady calls s rs t → IsWritable s → IsWritable t
 chain_writable [] s t [] p w = subst IsWritable (sym p) w
 chain_writable [] s t (x ∷ xs) p w = absurd p
 chain_writable (c ∷ cs) s t [] p w = absurd p
-chain_writable (c ∷ cs) s t (r ∷ rs) p w = chain_writable cs p.1.0 t rs p.1.2 (ready_writable p.0.kind s p.1.0 r p.0.is_ready p.1.1 w)
+chain_writable (c ∷ cs) s t (r ∷ rs) p w = chain_writable cs p.1.0 t rs p.1.2 (readied_writable c s p.1.0 r p.0 p.1.1 w)

@@ -10,13 +10,13 @@ use Rattle.graph_text.specs.declared.graph.FilterCall.{FilterCall}
 use Rattle.graph_text.proofs.GraphLemmas.{one_graph, one_graph_fault, graph_or_fault}
 use Rattle.node_core.specs.declared.kind.Kind.{Kind}
 use Rattle.node_core.specs.Kinds.{IsKind, IsKindFault}
-use Rattle.node_core.proofs.KindLaws.{one_meaning}
-use Rattle.avgraph.specs.declared.fault.Fault.{Fault}
-use Rattle.avgraph.specs.declared.fault.Fault.TheVariants.{TextFault}
-use Rattle.avgraph.specs.declared.fault.Stop.{Stop}
-use Rattle.avgraph.specs.declared.fault.Stop.TheVariants as stop
-use Rattle.avgraph.specs.Faults.{option_stop}
-use Rattle.avgraph.specs.Words.{words_of}
+use Rattle.node_core.proofs.LawLemmas.{one_meaning}
+use Rattle.av_faults.specs.declared.fault.Fault.{Fault}
+use Rattle.av_faults.specs.declared.fault.Fault.TheVariants.{TextFault}
+use Rattle.av_faults.specs.declared.fault.Stop.{Stop}
+use Rattle.av_faults.specs.declared.fault.Stop.TheVariants as stop
+use Rattle.avgraph.specs.Stops.{option_stop}
+use Rattle.avgraph.specs.FirstForm.{words_of}
 use Rattle.avgraph.specs.Requests.{IsBare, SaysFilters, IsRefusedCall, RefusesCalls, TooMany, BadCall, NoChain, RefusesText, TooLong, NoReading, BadCalls, StopsCalls, StopsText}
 
 -- ---- calls

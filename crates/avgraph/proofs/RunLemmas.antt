@@ -1,100 +1,33 @@
 -- The loop that reads frames, passes them through the filters and writes them.
-use Rattle.std.proofs.Common.{◌≡◌, ℕ, ◌+◌, ◌<◌, ◌≤◌, List, [], ◌∷◌, ◌++◌, take, drop, map, length, Err, refl, ◌∙◌, ap, sym, subst, arith, length-append, append_assoc}
+use Rattle.std.proofs.Common.{◌≡◌, ℕ, ◌+◌, List, [], ◌∷◌, ◌++◌, take, drop, length, Err, refl, ◌∙◌, ap, sym, subst, arith, length-append}
 use Rattle.std.specs.Option.{ForSome}
-use Rattle.std.specs.List.{concat}
-use Rattle.std.proofs.lemmas.List.{append-nil, take_all, take-append-le, map-append, length_push}
-use Rattle.std.proofs.lemmas.List.Folds.{concat-append}
+use Rattle.std.proofs.lemmas.List.{append-nil, take-append-le, length_push}
 use Rattle.std.proofs.Math.Seq.{take-append-add, take-length}
 use Rattle.av_base.specs.declared.shapes.Shape.{Shape}
 use Rattle.av_host.specs.World.{World}
 use Rattle.av_host.specs.Calls.{Reads, Changes, appended}
 use Rattle.av_host.proofs.Runs.{Takes-nil, Takes-append, Alters-nil, Alters-append, Reads-nil}
-use Rattle.av_frame.specs.Frames.{FrameValue, ArePlanes}
-use Rattle.avgraph.specs.FrameTexts.{frame_text, frames_text, frame_size, IsFrameAt, AreFramesFrom, BeginsFrame, CanBeginFrame, IsBadFrame, IsTruncated, IsPastLimit}
+use Rattle.av_frame.specs.Frames.{FrameValue}
+use Rattle.y4m_io.specs.FrameTexts.{frame_text, frames_text, IsFrameAt, AreFramesFrom}
 use Rattle.avgraph.specs.Chains.{through, passed}
-use Rattle.avgraph.specs.HostRuns.{ReadsSome, WritesPart}
-use Rattle.avgraph.specs.Reading.{Reading, GivesFrame, GivesEnd, Gives}
+use Rattle.av_host.specs.HostRuns.{ReadsSome, WritesPart}
+use Rattle.y4m_io.specs.Reading.{Reading, GivesFrame, GivesEnd, Gives}
 use Rattle.av_frame.specs.declared.faults.NextError.{NextError}
 use Rattle.av_frame.specs.declared.faults.NextError.TheVariants as next
 use Rattle.av_frame.specs.declared.faults.WriteError.{WriteError}
 use Rattle.av_frame.specs.declared.faults.WriteError.TheVariants as write
-use Rattle.avgraph.specs.Writing.{Writing}
+use Rattle.y4m_io.specs.Writing.{Writing}
 use Rattle.avgraph.specs.Running.{Moves, MovesAll, MovesWhole, MovesPart, IsNoFrames, Runs, passed_text, stop_of_next, stop_of_write}
-use Rattle.node_core.specs.declared.ready.Ready.{Ready}
-use Rattle.avgraph.specs.declared.fault.Fault.TheVariants.{NotYet}
-use Rattle.avgraph.specs.declared.fault.Stop.TheVariants as stop
+use Rattle.node_core.specs.Shaping.{ReadyValue}
+use Rattle.av_faults.specs.declared.fault.Fault.TheVariants.{NotYet}
+use Rattle.av_faults.specs.declared.fault.Stop.TheVariants as stop
 use Rattle.avgraph.proofs.ChainLemmas.{through-nil, through-push}
-use Rattle.avgraph.proofs.FrameLemmas.{length-frame, can_begin-mark}
+use Rattle.y4m_io.proofs.FrameListLemmas.{frames_text-push, AreFramesFrom-push, frames_behind, IsStuck, stuck_bad, stuck_truncated, stuck_past}
 
 -- ---- texts of frames
 
-frames_text-append : (xs ys : List FrameValue) → frames_text (xs ++ ys) ≡ frames_text xs ++ frames_text ys
-frames_text-append xs ys =
-    ap concat (map-append (λ (f : FrameValue). frame_text f.planes) xs ys) ∙ concat-append (map (λ (f : FrameValue). frame_text f.planes) xs) (map (λ (f : FrameValue). frame_text f.planes) ys)
-
-frames_text-push : (xs : List FrameValue) (f : FrameValue) → frames_text (xs ++ f ∷ []) ≡ frames_text xs ++ frame_text f.planes
-frames_text-push xs f = frames_text-append xs (f ∷ []) ∙ ap (λ (z : List ℕ). frames_text xs ++ z) (append-nil (frame_text f.planes))
-
-passed_text-push : (readies : List Ready) (xs : List FrameValue) (f : FrameValue) → passed_text readies (xs ++ f ∷ []) ≡ passed_text readies xs ++ frame_text (passed readies f).planes
+passed_text-push : (readies : List ReadyValue) (xs : List FrameValue) (f : FrameValue) → passed_text readies (xs ++ f ∷ []) ≡ passed_text readies xs ++ frame_text (passed readies f).planes
 passed_text-push readies xs f = ap frames_text (through-push readies xs f) ∙ frames_text-push (through readies xs) (passed readies f)
-
-AreFramesFrom-push : (shape : Shape) (k : ℕ) (xs : List FrameValue) (f : FrameValue) → AreFramesFrom shape k xs → IsFrameAt shape (k + length xs) f → AreFramesFrom shape k (xs ++ f ∷ [])
-AreFramesFrom-push shape k [] f are is = (subst (λ (n : ℕ). IsFrameAt shape n f) (omega arith) is, tt)
-AreFramesFrom-push shape k (x ∷ xs) f are is =
-    (are.0, AreFramesFrom-push shape (k + 1) xs f are.1 (subst (λ (n : ℕ). IsFrameAt shape n f) (let e : k + length (x ∷ xs) ≡ (k + 1) + length xs = omega arith in e) is))
-
-pub length-frame_at : (shape : Shape) (k : ℕ) (f : FrameValue) → IsFrameAt shape k f → length (frame_text f.planes) ≡ frame_size shape
-length-frame_at shape k f is = length-frame shape f.planes (subst (λ (s : Shape). ArePlanes s f.planes) is.shape_is is.is_frame.picture.sizes)
-
-pub some_frame : (shape : Shape) (k : ℕ) (f : FrameValue) → IsFrameAt shape k f → 0 < length (frame_text f.planes)
-some_frame shape k f is = let e = length-frame_at shape k f is in omega arith
-
--- two texts of equal beginnings' lengths
-pub split_same : (vs bs xs ys : List ℕ) → vs ++ xs ≡ bs ++ ys → length vs ≡ length bs → xs ≡ ys
-split_same [] [] xs ys e n = e
-split_same [] (b ∷ bs) xs ys e n = absurd (omega arith)
-split_same (v ∷ vs) [] xs ys e n = absurd (omega arith)
-split_same (v ∷ vs) (b ∷ bs) xs ys e n = split_same vs bs xs ys (cc) (omega arith)
-
--- What follows leading frames in the text of frames is the text of the other frames.
-frames_behind : (shape : Shape) (k : ℕ) (xs ys : List FrameValue) (rest : List ℕ) → AreFramesFrom shape k xs → AreFramesFrom shape k ys → frames_text ys ≡ frames_text xs ++ rest
-    → (zs : List FrameValue) × AreFramesFrom shape (k + length xs) zs × (rest ≡ frames_text zs)
-frames_behind shape k [] ys rest are ares e = (ys, subst (λ (n : ℕ). AreFramesFrom shape n ys) (let h : k ≡ k + 0 = omega arith in h) ares, sym e)
-frames_behind shape k (x ∷ xs) [] rest are ares e =
-    absurd (let some = some_frame shape k x are.0 in let n = ap length e in
-    let l = length-append (frame_text x.planes ++ frames_text xs) rest in let m = length-append (frame_text x.planes) (frames_text xs) in omega arith)
-frames_behind shape k (x ∷ xs) (y ∷ ys) rest are ares e =
-    let same : length (frame_text y.planes) ≡ length (frame_text x.planes) = length-frame_at shape k y ares.0 ∙ sym (length-frame_at shape k x are.0) in
-    let behind : frames_text ys ≡ frames_text xs ++ rest =
-    split_same (frame_text y.planes) (frame_text x.planes) (frames_text ys) (frames_text xs ++ rest) (e ∙ append_assoc (frame_text x.planes) (frames_text xs) rest) same in
-    let r = frames_behind shape (k + 1) xs ys rest are.1 ares.1 behind in
-    (r.0, subst (λ (n : ℕ). AreFramesFrom shape n r.0) (let h : (k + 1) + length xs ≡ k + length (x ∷ xs) = omega arith in h) r.1, r.2)
-
--- ---- what stands where no frame is given
-
--- what is left isn't the text of frames within the limit, whatever the number of the first
-abbrev IsStuck : Shape → ℕ → List ℕ → Type 0
-IsStuck shape room left = (k : ℕ) (frames : List FrameValue) → AreFramesFrom shape k frames → left ≡ frames_text frames → length left ≤ room → ⊥
-
-begins_frame : (shape : Shape) (k : ℕ) (f : FrameValue) (fs : List FrameValue) (left : List ℕ) → IsFrameAt shape k f → left ≡ frames_text (f ∷ fs) → BeginsFrame shape left
-begins_frame shape k f fs left is e = record {
-  planes = f.planes;
-  rest = frames_text fs;
-  are_planes = subst (λ (s : Shape). ArePlanes s f.planes) is.shape_is is.is_frame.picture.sizes;
-  text_is = e;
-}
-
-pub stuck_bad : (shape : Shape) (room : ℕ) (left : List ℕ) → IsBadFrame shape room left → IsStuck shape room left
-stuck_bad shape room left bad k [] are e within = bad (subst (CanBeginFrame shape) (sym (take_all room left within ∙ e)) (can_begin-mark shape 0))
-stuck_bad shape room left bad k (f ∷ fs) are e within =
-    bad ([], begins_frame shape k f fs (take room left ++ []) are.0 (append-nil (take room left) ∙ (take_all room left within ∙ e)))
-
-pub stuck_truncated : (shape : Shape) (room : ℕ) (left : List ℕ) → IsTruncated shape room left → IsStuck shape room left
-stuck_truncated shape room left t k [] are e within = let n = ap length e in let some = t.some in omega arith
-stuck_truncated shape room left t k (f ∷ fs) are e within = t.no_frame (begins_frame shape k f fs left are.0 e)
-
-pub stuck_past : (shape : Shape) (room : ℕ) (left : List ℕ) → IsPastLimit shape room left → IsStuck shape room left
-stuck_past shape room left p k frames are e within = let past = p.past in omega arith
 
 -- ---- the loop
 
@@ -118,14 +51,14 @@ Moves-changes {put = put} ys p q = record {
 }
 
 -- How far the loop has come: which frames were read, and that they were written. The limit leaves `room` bytes of `total`.
-pub record SoFar (shape : Shape) (readies : List Ready) (total : ℕ) (old new : World) (input output room frames : ℕ) : Type 0 where
+pub record SoFar (shape : Shape) (readies : List ReadyValue) (total : ℕ) (old new : World) (input output room frames : ℕ) : Type 0 where
   pub got : List FrameValue
   pub are_frames : AreFramesFrom shape 0 got
   pub count : length got ≡ frames
   pub size : length (frames_text got) + room ≡ total
   pub moves : Moves old new input output (frames_text got) (passed_text readies got)
 
-pub SoFar-none : (shape : Shape) (readies : List Ready) (total : ℕ) (w : World) (input output : ℕ) → SoFar shape readies total w w input output total 0
+pub SoFar-none : (shape : Shape) (readies : List ReadyValue) (total : ℕ) (w : World) (input output : ℕ) → SoFar shape readies total w w input output total 0
 SoFar-none shape readies total w input output = record {
   got = [];
   are_frames = tt;
@@ -135,11 +68,11 @@ SoFar-none shape readies total w input output = record {
 }
 
 -- a frame was refused
-pub SoFar-whole : {shape : Shape} {readies : List Ready} {total : ℕ} {a b c : World} {input output room frames : ℕ} → SoFar shape readies total a b input output room frames → ReadsSome b c input → MovesWhole shape readies a c input output
+pub SoFar-whole : {shape : Shape} {readies : List ReadyValue} {total : ℕ} {a b c : World} {input output room frames : ℕ} → SoFar shape readies total a b input output room frames → ReadsSome b c input → MovesWhole shape readies a c input output
 SoFar-whole s r = record { frames = s.got; rest = r.0; are_frames = s.are_frames; moves = Moves-reads s.moves r.1 }
 
 -- what was left where the loop began isn't the text of frames either
-pub SoFar-stuck : {shape : Shape} {readies : List Ready} {total : ℕ} {a b : World} {input output room frames : ℕ} → SoFar shape readies total a b input output room frames → ForSome (b.inputs.left input) (IsStuck shape room) → ForSome (a.inputs.left input) (IsNoFrames shape total)
+pub SoFar-stuck : {shape : Shape} {readies : List ReadyValue} {total : ℕ} {a b : World} {input output room frames : ℕ} → SoFar shape readies total a b input output room frames → ForSome (b.inputs.left input) (IsStuck shape room) → ForSome (a.inputs.left input) (IsNoFrames shape total)
 SoFar-stuck {shape} {readies} {total} {a} {b} {input} {output} {room} {frames} s stuck = λ x e others are text within.
     let rest = drop (length (frames_text s.got)) x in
     let begins = s.moves.inputs.begins x e in
@@ -148,7 +81,7 @@ SoFar-stuck {shape} {readies} {total} {a} {b} {input} {output} {room} {frames} s
     (let size = s.size in let n = ap length begins ∙ length-append (frames_text s.got) rest in omega arith)
 
 -- the run was stopped after whole frames were written
-pub SoFar-part : {shape : Shape} {readies : List Ready} {total : ℕ} {a b c : World} {input output room frames : ℕ} → SoFar shape readies total a b input output room frames → ReadsSome b c input → MovesPart shape readies a c input output
+pub SoFar-part : {shape : Shape} {readies : List ReadyValue} {total : ℕ} {a b c : World} {input output room frames : ℕ} → SoFar shape readies total a b input output room frames → ReadsSome b c input → MovesPart shape readies a c input output
 SoFar-part {readies} s r = record {
   frames = s.got;
   rest = r.0;
@@ -157,7 +90,7 @@ SoFar-part {readies} s r = record {
   moves = rw take-length (Moves-reads s.moves r.1);
 }
 
-module _ {shape : Shape} {readies : List Ready} {total : ℕ} {a b c : World} {reader after : Reading} {output : ℕ} (s : SoFar shape readies total a b reader.id output reader.room reader.frames) where
+module _ {shape : Shape} {readies : List ReadyValue} {total : ℕ} {a b c : World} {reader after : Reading} {output : ℕ} (s : SoFar shape readies total a b reader.id output reader.room reader.frames) where
   -- one more frame that is read
   are_more : {f : FrameValue} → GivesFrame shape b c reader after f → AreFramesFrom shape 0 (s.got ++ f ∷ [])
   are_more {f} g = AreFramesFrom-push shape 0 s.got f s.are_frames (subst (λ (n : ℕ). IsFrameAt shape n f) (let e = s.count in let h : reader.frames ≡ 0 + length s.got = omega arith in h) g.frame)
@@ -213,7 +146,7 @@ module _ {shape : Shape} {readies : List Ready} {total : ℕ} {a b c : World} {r
 
 -- ---- the calls of the loop
 
-module _ (shape : Shape) (readies : List Ready) {a b : World} (reader first : Reading) (writer : Writing) (s : SoFar shape readies first.room a b reader.id writer.id reader.room reader.frames) where
+module _ (shape : Shape) (readies : List ReadyValue) {a b : World} (reader first : Reading) (writer : Writing) (s : SoFar shape readies first.room a b reader.id writer.id reader.room reader.frames) where
   -- a frame was read, passed through the readies and written
   pub step : {c d : World} {after : Reading} {now : Writing} {f out : FrameValue} → GivesFrame shape b c reader after f → out ≡ passed readies f → now ≡ writer → Changes c d now.id (appended (frame_text out.planes))
       → SoFar shape readies first.room a d after.id writer.id after.room after.frames

@@ -1,51 +1,28 @@
 -- What a command answers, from the bytes of its input alone.
-use Rattle.std.specs.Prelude.{◌≡◌, ◌≤◌, ◌+◌, ◌⊎◌, ℕ, List, [], ◌∷◌, ◌++◌, length, take, Contains}
+use Rattle.std.specs.Prelude.{◌≡◌, ◌≤◌, ◌+◌, ◌⊎◌, ℕ, List, [], ◌∷◌, length, take, Contains}
 use Rattle.av_base.specs.declared.shapes.Shape.{Shape}
 use Rattle.av_base.specs.declared.formats.Format.{Format}
 use Rattle.graph_text.specs.declared.graph.FilterCall.{FilterCall}
 use Rattle.av_frame.specs.Frames.{FrameValue}
+use Rattle.av_frame.specs.Limits.{IsPictureShape}
 use Rattle.av_frame.specs.declared.refusals.ConfigError.{ConfigError}
 use Rattle.node_core.specs.declared.kind.Kind.{Kind}
-use Rattle.node_core.specs.declared.ready.Ready.{Ready}
+use Rattle.node_core.specs.Shaping.{ReadyValue, Takes, IsConfigFault}
 use Rattle.node_core.specs.Kinds.{IsKind}
-use Rattle.node_core.specs.Shaping.{Takes, IsConfigFault}
 use Rattle.avgraph.specs.Chains.{IsReadied, AreReady, through}
-use Rattle.avgraph.specs.Faults.{config_stop}
-use Rattle.avgraph.specs.HeaderTexts.{IsHeader, BeginsHeader, header_text}
-use Rattle.avgraph.specs.FrameTexts.{frames_text, AreFramesFrom}
-use Rattle.avgraph.specs.declared.fault.Fault.{Fault}
-use Rattle.avgraph.specs.declared.fault.Fault.TheVariants.{NotYet, NoCommonFormat}
-use Rattle.avgraph.specs.declared.fault.Stop.{Stop}
-use Rattle.avgraph.specs.declared.fault.Stop.TheVariants as stop
-
--- the bytes are a whole file of this shape and these frames
-pub record IsFile (bytes : List ℕ) (shape : Shape) (frames : List FrameValue) : Type 0 where
-  pub line : List ℕ
-  pub header : IsHeader line shape
-  pub are_frames : AreFramesFrom shape 0 frames
-  pub text : bytes ≡ line ++ frames_text frames
-
--- the bytes begin with a header line of this shape and these frames
-pub record BeginsFile (bytes : List ℕ) (shape : Shape) (frames : List FrameValue) : Type 0 where
-  pub line : List ℕ
-  pub rest : List ℕ
-  pub header : IsHeader line shape
-  pub are_frames : AreFramesFrom shape 0 frames
-  pub text : bytes ≡ line ++ (frames_text frames ++ rest)
-
--- the text of a stream that goes on
-abbrev pub open_text : Shape → List FrameValue → List ℕ
-open_text shape frames = header_text shape ++ frames_text frames
-
--- the text of a stream that has ended: behind the open text stands an end piece, which is empty
-abbrev pub whole_text : Shape → List FrameValue → List ℕ
-whole_text shape frames = open_text shape frames
+use Rattle.avgraph.specs.Stops.{config_stop}
+use Rattle.y4m_io.specs.HeaderTexts.{BeginsHeader}
+use Rattle.y4m_io.specs.Files.{IsFile, whole_text}
+use Rattle.av_faults.specs.declared.fault.Fault.{Fault}
+use Rattle.av_faults.specs.declared.fault.Fault.TheVariants.{NotYet, NoCommonFormat}
+use Rattle.av_faults.specs.declared.fault.Stop.{Stop}
+use Rattle.av_faults.specs.declared.fault.Stop.TheVariants as stop
 
 -- what the output holds, where the input is a file within the limit: the text of its frames at the end of the filters
 pub record Answers (limit : ℕ) (calls : List FilterCall) (bytes out : List ℕ) : Type 0 where
   pub shape : Shape
   pub frames : List FrameValue
-  pub readies : List Ready
+  pub readies : List ReadyValue
   pub end : Shape
   pub file : IsFile bytes shape frames
   pub within : length bytes ≤ limit
@@ -66,11 +43,19 @@ pub record IsUntaken (calls : List FilterCall) (f : Format) : Type 0 where
 abbrev pub AreTaking : List FilterCall → Format → Type 0
 AreTaking calls f = ¬ IsUntaken calls f
 
--- the first filter of a chain that can't be made ready, of which the first listed is the n-th, stops the command with this
+-- the call means a filter that takes pictures of the shape, and is refused for them
+pub record IsRefused (call : FilterCall) (s : Shape) (e : ConfigError) : Type 0 where
+  pub kind : Kind
+  pub is_kind : IsKind call kind
+  pub picture : IsPictureShape s
+  pub takes : Takes kind s.format
+  pub fault : IsConfigFault kind s e
+
+-- the first filter of a chain that can't be configured, of which the first listed is the n-th, stops the command with this
 abbrev pub IsUnready : ℕ → List FilterCall → Shape → Stop → Type 0
 IsUnready n [] s stops = ⊥
-IsUnready n (call ∷ calls) s stops = ((kind : Kind) × (e : ConfigError) × IsKind call kind × IsConfigFault kind s e × (stops ≡ config_stop n e))
-    ⊎ ((ready : Ready) × (u : Shape) × IsReadied call s ready × (ready.outs ≡ u ∷ []) × IsUnready (n + 1) calls u stops)
+IsUnready n (call ∷ calls) s stops = ((e : ConfigError) × IsRefused call s e × (stops ≡ config_stop n e))
+    ⊎ ((ready : ReadyValue) × (u : Shape) × IsReadied call s ready × (ready.outs ≡ u ∷ []) × IsUnready (n + 1) calls u stops)
 
 -- what stands against the filters for pictures of a shape: no common format, or else one that can't be made ready
 pub data RefusesShape (calls : List FilterCall) (s : Shape) (fault : Fault) : Type 0 where
@@ -83,14 +68,14 @@ HasHead limit bytes s = (begins : BeginsHeader (take limit bytes)) × (begins.sh
 
 -- the bytes begin with the header of pictures for which the filters can be made ready
 abbrev pub IsReadyFor : List FilterCall → List ℕ → Type 0
-IsReadyFor calls bytes = (begins : BeginsHeader bytes) × (readies : List Ready) × (t : Shape) × AreReady calls begins.shape readies t
+IsReadyFor calls bytes = (begins : BeginsHeader bytes) × (readies : List ReadyValue) × (t : Shape) × AreReady calls begins.shape readies t
 
 -- what stands in the file: it has no header of the form that is read today; else its shape is refused; else it is damaged,
 -- or passes the limit, which isn't told today
 pub data IsFileFault (limit : ℕ) (calls : List FilterCall) (bytes : List ℕ) (fault : Fault) : Type 0 where
   NoHead : ¬ BeginsHeader (take limit bytes) → fault ≡ NotYet → IsFileFault limit calls bytes fault
   BadShape : (s : Shape) → HasHead limit bytes s → RefusesShape calls s fault → IsFileFault limit calls bytes fault
-  Damaged : (s : Shape) (readies : List Ready) (t : Shape) → HasHead limit bytes s → AreReady calls s readies t
+  Damaged : (s : Shape) (readies : List ReadyValue) (t : Shape) → HasHead limit bytes s → AreReady calls s readies t
       → ((out : List ℕ) → ¬ Answers limit calls bytes out) → fault ≡ NotYet → IsFileFault limit calls bytes fault
 
 -- a file has one answer for a chain of calls at most, or one fault, and never both

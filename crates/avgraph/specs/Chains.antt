@@ -1,63 +1,57 @@
 -- Chains of filters, each ready for what the one before it gives.
 use Rattle.std.specs.Prelude.{◌≡◌, ℕ, ℤ, Bool, ◌≤ℤ◌, List, [], ◌∷◌}
 use Rattle.av_base.specs.declared.shapes.Shape.{Shape}
-use Rattle.av_base.specs.Shapes.{IsLawful, IsVideo}
 use Rattle.av_frame.specs.Frames.{FrameValue}
 use Rattle.av_frame.specs.FilterLaws.{Pads, one_to}
+use Rattle.av_frame.specs.Limits.{IsPictureShape}
 use Rattle.av_frame.specs.Rules.{each_stream}
 use Rattle.av_frame.specs.Streams.{Streams, Rises}
 use Rattle.graph_text.specs.declared.graph.FilterCall.{FilterCall}
 use Rattle.node_core.specs.declared.kind.Kind.{Kind}
-use Rattle.node_core.specs.declared.ready.Ready.{Ready}
+use Rattle.node_core.specs.Shaping.{ReadyValue, Takes, IsReady, given, made_by}
+use Rattle.node_core.specs.Filters.{frame_filters}
 use Rattle.node_core.specs.Kinds.{IsKind}
-use Rattle.node_core.specs.Shaping.{Takes, IsReady}
-use Rattle.node_core.specs.Instances.{given, made_by}
 
--- the call means a filter that takes pictures of the shape, and this is it made ready for them
-pub record IsReadied (call : FilterCall) (s : Shape) (ready : Ready) : Type 0 where
+-- the call means a filter that takes pictures of the shape, and this is that filter, configured for them
+pub record IsReadied (call : FilterCall) (s : Shape) (ready : ReadyValue) : Type 0 where
   pub kind : Kind
   pub is_kind : IsKind call kind
+  pub picture : IsPictureShape s
   pub takes : Takes kind s.format
   pub is_ready : IsReady kind s ready
 
 -- the calls' filters are ready one behind the other, the first for pictures of shape s, and the last gives shape t
-abbrev pub AreReady : List FilterCall → Shape → List Ready → Shape → Type 0
+abbrev pub AreReady : List FilterCall → Shape → List ReadyValue → Shape → Type 0
 AreReady [] s [] t = t ≡ s
 AreReady (call ∷ calls) s (ready ∷ readies) t = IsReadied call s ready × ((u : Shape) × (ready.outs ≡ u ∷ []) × AreReady calls u readies t)
 AreReady calls s readies t = ⊥
 
 -- the frames at the end of a chain
-abbrev pub through : List Ready → List FrameValue → List FrameValue
+abbrev pub through : List ReadyValue → List FrameValue → List FrameValue
 through [] frames = frames
 through (ready ∷ readies) frames = through readies (given ready frames)
 
 -- the frame at the end of a chain for one by itself
-abbrev pub passed : List Ready → FrameValue → FrameValue
+abbrev pub passed : List ReadyValue → FrameValue → FrameValue
 passed [] frame = frame
 passed (ready ∷ readies) frame = passed readies (made_by ready frame)
 
 -- what contracts see of a chain that runs: its filters, the shapes of the frames that it is offered and that it gives,
 -- the least time that the next frame may have, and whether a frame was refused, behind which no other may come
 pub record ChainValue : Type 0 where
-  pub readies : List Ready
+  pub readies : List ReadyValue
   pub shape : Shape
   pub end : Shape
   pub next : ℤ
   pub spent : Bool
 
--- ---- the same by filters
+-- ---- the same by shapes
 
--- the filters are ready, the first for pictures of a shape, each other for those of the filter before it; the last gives
--- pictures of the shape t
-abbrev pub AreReadyKinds : List Kind → Shape → List Ready → Shape → Type 0
-AreReadyKinds [] s [] t = t ≡ s
-AreReadyKinds (k ∷ ks) s (r ∷ rs) t = IsReady k s r × ((u : Shape) × (r.outs ≡ u ∷ []) × AreReadyKinds ks u rs t)
-AreReadyKinds ks s rs t = ⊥
-
--- each filter takes the pictures that come to it
-abbrev pub AllFit : List Kind → Shape → List Ready → Type 0
-AllFit (k ∷ ks) s (r ∷ rs) = IsLawful s × IsVideo s.format × Takes k s.format × ((u : Shape) → r.outs ≡ u ∷ [] → AllFit ks u rs)
-AllFit ks s rs = Unit {0}
+-- the filters are configured, the first for pictures of shape s, each other for those of the filter before it, and the last
+-- gives pictures of shape t
+abbrev pub AreLinked : Shape → List ReadyValue → Shape → Type 0
+AreLinked s [] t = t ≡ s
+AreLinked s (r ∷ rs) t = (r.ins ≡ s ∷ []) × (r.outs ≡ frame_filters.making.shape r.settings s ∷ []) × AreLinked (frame_filters.making.shape r.settings s) rs t
 
 -- ---- instances
 
@@ -74,7 +68,7 @@ pub record TakesFrom (low : ℤ) (s : Shape) (made : FrameValue → FrameValue) 
 
 -- The filters of a chain take frames from a time on, the first those of a shape, each other what the filter before it
 -- makes; the last makes frames of the shape t. Of a filter v, `pads v`, `rest v` and `accepts v` are what it has.
-abbrev pub AllTake : {V : Type 0} (pads : V → Pads) (rest : V → Streams → Streams) (accepts : V → ℕ → FrameValue → Type 0) → ℤ → Shape → List Ready → List V → Shape → Type 0
+abbrev pub AllTake : {V : Type 0} (pads : V → Pads) (rest : V → Streams → Streams) (accepts : V → ℕ → FrameValue → Type 0) → ℤ → Shape → List ReadyValue → List V → Shape → Type 0
 AllTake pads rest accepts low s [] [] t = t ≡ s
 AllTake pads rest accepts low s (r ∷ rs) (v ∷ vs) t =
     TakesFrom low s (made_by r) (pads v) (rest v) (accepts v)

@@ -9,20 +9,21 @@ use Rattle.av_host.specs.declared.host.HostError.TheVariants as host
 use Rattle.av_frame.specs.declared.faults.HeadError.{HeadError}
 use Rattle.av_frame.specs.declared.faults.HeadError.TheVariants as head
 use Rattle.av_frame.specs.Frames.{FrameValue}
-use Rattle.avgraph.specs.HeaderTexts.{IsHeader, BeginsHeader, header_text}
+use Rattle.y4m_io.specs.HeaderTexts.{IsHeader, BeginsHeader, header_text}
 use Rattle.graph_text.specs.declared.graph.FilterCall.{FilterCall}
-use Rattle.node_core.specs.declared.ready.Ready.{Ready}
+use Rattle.node_core.specs.Shaping.{ReadyValue}
 use Rattle.avgraph.specs.Chains.{ChainValue, AreReady, through}
-use Rattle.avgraph.specs.Faults.{IsOfFile}
-use Rattle.avgraph.specs.Answers.{Answers, RefusesShape, IsFileFault, BeginsFile, open_text}
-use Rattle.avgraph.specs.Reading.{Reading}
-use Rattle.avgraph.specs.Writing.{Writing}
-use Rattle.avgraph.specs.declared.stages.Stage.TheVariants as stage
-use Rattle.avgraph.specs.declared.stages.Progress.TheVariants as progress
-use Rattle.avgraph.specs.declared.fault.Fault.{Fault}
-use Rattle.avgraph.specs.declared.fault.Fault.TheVariants.{NotYet, OpenFault, ReadFault, WriteFault}
-use Rattle.avgraph.specs.declared.fault.Stop.{Stop}
-use Rattle.avgraph.specs.declared.fault.Stop.TheVariants as stop
+use Rattle.av_faults.specs.Faults.{IsOfFile}
+use Rattle.avgraph.specs.Answers.{Answers, RefusesShape, IsFileFault}
+use Rattle.y4m_io.specs.Files.{BeginsFile, open_text}
+use Rattle.y4m_io.specs.Reading.{Reading}
+use Rattle.y4m_io.specs.Writing.{Writing}
+use Rattle.y4m_io.specs.declared.y4m_state.Stage.TheVariants as stage
+use Rattle.y4m_io.specs.declared.y4m_state.Progress.TheVariants as progress
+use Rattle.av_faults.specs.declared.fault.Fault.{Fault}
+use Rattle.av_faults.specs.declared.fault.Fault.TheVariants.{NotYet, OpenFault, ReadFault, WriteFault}
+use Rattle.av_faults.specs.declared.fault.Stop.{Stop}
+use Rattle.av_faults.specs.declared.fault.Stop.TheVariants as stop
 
 abbrev pub stop_of_opening : HostError → Stop
 stop_of_opening host.Failed = stop.Fault OpenFault
@@ -147,7 +148,7 @@ pub record Finishes (limit : ℕ) (calls : List FilterCall) (old new : World) (i
 pub record IsBegun (calls : List FilterCall) (bytes put : List ℕ) : Type 0 where
   pub shape : Shape
   pub frames : List FrameValue
-  pub readies : List Ready
+  pub readies : List ReadyValue
   pub end : Shape
   pub count : ℕ
   pub file : BeginsFile bytes shape frames

@@ -3,13 +3,14 @@ use Rattle.std.specs.Prelude.{◌≡◌, ◌≢◌, ◌⊎◌, ◌<◌, ◌-◌,
 use Rattle.std.specs.Option.{ForSome}
 use Rattle.av_host.specs.World.{World, Faults}
 use Rattle.av_host.specs.Calls.{Says, Rises}
-use Rattle.avgraph.specs.HostRuns.{SaysPart}
-use Rattle.avgraph.specs.declared.fault.Fault.{Fault}
-use Rattle.avgraph.specs.declared.fault.Stop.{Stop}
-use Rattle.avgraph.specs.declared.fault.Stop.TheVariants as stop
+use Rattle.av_host.specs.HostRuns.{SaysPart}
+use Rattle.av_faults.specs.declared.fault.Fault.{Fault}
+use Rattle.av_faults.specs.declared.fault.Stop.{Stop}
+use Rattle.av_faults.specs.declared.fault.Stop.TheVariants as stop
 use Rattle.graph_text.specs.declared.graph.FilterCall.{FilterCall}
 use Rattle.avgraph.specs.Requests.{Request, IsRequest, IsRefused, IsRefusedAtOnce}
-use Rattle.avgraph.specs.Faults.{IsOfText, CountsStop, stop_status, stop_line}
+use Rattle.av_faults.specs.Faults.{IsOfText, stop_status, stop_line}
+use Rattle.avgraph.specs.Stops.{CountsStop}
 use Rattle.avgraph.specs.Answers.{Answers, IsFileFault}
 use Rattle.avgraph.specs.Commands.{Commands, KeepsInputs, IsReadToEnd, IsBegun}
 

@@ -7,13 +7,13 @@ use Rattle.graph_text.specs.declared.graph.FilterCall.{FilterCall}
 use Rattle.av_frame.specs.declared.refusals.OptionError.{OptionError}
 use Rattle.node_core.specs.declared.kind.Kind.{Kind}
 use Rattle.node_core.specs.Kinds.{IsKind, IsKindFault}
-use Rattle.avgraph.specs.declared.fault.Fault.{Fault}
-use Rattle.avgraph.specs.declared.fault.Fault.TheVariants.{NotYet, TextFault, Limit}
-use Rattle.avgraph.specs.declared.fault.LimitKind.TheVariants.{Text, Filters}
-use Rattle.avgraph.specs.declared.fault.Stop.{Stop}
-use Rattle.avgraph.specs.declared.fault.Stop.TheVariants as stop
-use Rattle.avgraph.specs.Faults.{option_stop}
-use Rattle.avgraph.specs.Words.{words_of}
+use Rattle.av_faults.specs.declared.fault.Fault.{Fault}
+use Rattle.av_faults.specs.declared.fault.Fault.TheVariants.{NotYet, TextFault, Limit}
+use Rattle.av_faults.specs.declared.fault.LimitKind.TheVariants.{Text, Filters}
+use Rattle.av_faults.specs.declared.fault.Stop.{Stop}
+use Rattle.av_faults.specs.declared.fault.Stop.TheVariants as stop
+use Rattle.avgraph.specs.Stops.{option_stop}
+use Rattle.avgraph.specs.FirstForm.{words_of}
 
 -- ---- texts
 

@@ -9,14 +9,14 @@ use Rattle.av_frame.specs.declared.faults.NextError.TheVariants as next
 use Rattle.av_frame.specs.declared.faults.WriteError.{WriteError}
 use Rattle.av_frame.specs.declared.faults.WriteError.TheVariants as write
 use Rattle.av_frame.specs.Frames.{FrameValue}
-use Rattle.avgraph.specs.FrameTexts.{frames_text, AreFramesFrom}
-use Rattle.node_core.specs.declared.ready.Ready.{Ready}
+use Rattle.y4m_io.specs.FrameTexts.{frames_text, AreFramesFrom}
+use Rattle.node_core.specs.Shaping.{ReadyValue}
 use Rattle.avgraph.specs.Chains.{through}
-use Rattle.avgraph.specs.Reading.{Reading}
-use Rattle.avgraph.specs.Writing.{Writing}
-use Rattle.avgraph.specs.declared.fault.Fault.TheVariants.{NotYet, ReadFault, WriteFault}
-use Rattle.avgraph.specs.declared.fault.Stop.{Stop}
-use Rattle.avgraph.specs.declared.fault.Stop.TheVariants as stop
+use Rattle.y4m_io.specs.Reading.{Reading}
+use Rattle.y4m_io.specs.Writing.{Writing}
+use Rattle.av_faults.specs.declared.fault.Fault.TheVariants.{NotYet, ReadFault, WriteFault}
+use Rattle.av_faults.specs.declared.fault.Stop.{Stop}
+use Rattle.av_faults.specs.declared.fault.Stop.TheVariants as stop
 
 -- `got` was read from the input, `put` was added to the output, and nothing else changed but, it may be, the counts.
 pub record Moves (old new : World) (input output : ℕ) (got put : List ℕ) : Type 0 where
@@ -26,18 +26,18 @@ pub record Moves (old new : World) (input output : ℕ) (got put : List ℕ) : T
   pub said : new.said ≡ old.said
 
 -- the text of the frames at the end of the filters
-abbrev pub passed_text : List Ready → List FrameValue → List ℕ
+abbrev pub passed_text : List ReadyValue → List FrameValue → List ℕ
 passed_text readies frames = frames_text (through readies frames)
 
 -- Whole frames were read, and after them it may be a part of another. All of them were written.
-pub record MovesWhole (shape : Shape) (readies : List Ready) (old new : World) (input output : ℕ) : Type 0 where
+pub record MovesWhole (shape : Shape) (readies : List ReadyValue) (old new : World) (input output : ℕ) : Type 0 where
   pub frames : List FrameValue
   pub rest : List ℕ
   pub are_frames : AreFramesFrom shape 0 frames
   pub moves : Moves old new input output (frames_text frames ++ rest) (passed_text readies frames)
 
 -- Of the frames that were read a beginning of the text was written.
-pub record MovesPart (shape : Shape) (readies : List Ready) (old new : World) (input output : ℕ) : Type 0 where
+pub record MovesPart (shape : Shape) (readies : List ReadyValue) (old new : World) (input output : ℕ) : Type 0 where
   pub frames : List FrameValue
   pub rest : List ℕ
   pub count : ℕ
@@ -49,14 +49,14 @@ abbrev pub IsNoFrames : Shape → ℕ → List ℕ → Type 0
 IsNoFrames shape room left = (frames : List FrameValue) → AreFramesFrom shape 0 frames → left ≡ frames_text frames → length left ≤ room → ⊥
 
 -- All that was left of the input was the text of frames within the limit, and they were written.
-pub record MovesAll (shape : Shape) (readies : List Ready) (room : ℕ) (old new : World) (input output : ℕ) : Type 0 where
+pub record MovesAll (shape : Shape) (readies : List ReadyValue) (room : ℕ) (old new : World) (input output : ℕ) : Type 0 where
   pub frames : List FrameValue
   pub are_frames : AreFramesFrom shape 0 frames
   pub within : length (frames_text frames) ≤ room
   pub moves : Moves old new input output (frames_text frames) (passed_text readies frames)
   pub all : ForSome (old.inputs.left input) (λ left. left ≡ frames_text frames)
 
-abbrev pub Runs : Shape → List Ready → World → World → Reading → Writing → Result (Unit {0}) Stop → Type 0
+abbrev pub Runs : Shape → List ReadyValue → World → World → Reading → Writing → Result (Unit {0}) Stop → Type 0
 Runs shape readies old new reader writer (Ok done) = MovesAll shape readies reader.room old new reader.id writer.id
 Runs shape readies old new reader writer (Err (stop.Fault NotYet)) =
     MovesWhole shape readies old new reader.id writer.id × ForSome (old.inputs.left reader.id) (IsNoFrames shape reader.room)

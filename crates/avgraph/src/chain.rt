@@ -2,11 +2,9 @@
 ghost use Rattle.std.specs.Prelude.{◌≡◌, ℤ, pos, ◌+ℤ◌, ◌≤ℤ◌, List, false, IfOk, OnOk};
 ghost use Rattle.av_base.specs.declared.shapes.Shape.{Shape};
 ghost use Rattle.av_frame.specs.Frames.{FrameValue};
-ghost use Rattle.node_core.specs.declared.kind.Kind.{Kind};
-ghost use Rattle.node_core.specs.declared.ready.Ready.{Ready};
+ghost use Rattle.node_core.specs.Shaping.{ReadyValue};
 ghost use Rattle.graph_text.specs.declared.graph.FilterCall.{FilterCall};
-ghost use Rattle.av_base.specs.Shapes.{IsLawful, IsVideo};
-ghost use Rattle.avgraph.specs.Chains.{passed, AreReady, AreReadyKinds, AllFit, TakesFrom, AllTake};
+ghost use Rattle.avgraph.specs.Chains.{passed, AreReady, AreLinked, TakesFrom, AllTake};
 
 use av_base::{NoMemory, Shape};
 use av_frame::{Filter, Frame, Given};
@@ -20,8 +18,7 @@ use std::thread::Threads;
 /// # Errors
 /// Want of memory.
 fn start_all(alloc: Global, readies: &[Ready]) -> Result<Vec<Instance>, NoMemory>
-    requires { (kinds : List Kind) × (s : Shape) × (t : Shape) × AreReadyKinds kinds s readies.now t × AllFit kinds s readies.now }
-    ensures { (kinds : List Kind) (s t : Shape) → AreReadyKinds kinds s readies.now t → AllFit kinds s readies.now
+    ensures { (s t : Shape) → AreLinked s readies.now t
         → IfOk result (λ v. AllTake ⟦<Instance as Filter>⟧.pads ⟦<Instance as Filter>⟧.rest ⟦<Instance as Filter>⟧.accepts (pos 0) s readies.now v.items t) }
 {
     let mut instances = Vec::new(alloc);
@@ -68,12 +65,12 @@ fn pass<F: Filter, R: Threads + Sync>(
     filters: &mut [F],
     frame: Frame,
 ) -> Result<Frame, NoMemory>
-    requires { (low : ℤ) × (readies : List Ready) × (t : Shape) × (low ≤ℤ frame.pts) × AllTake F.pads F.rest F.accepts low frame.shape readies filters.old t }
-    ensures frame { (low : ℤ) (readies : List Ready) (t : Shape) → low ≤ℤ frame.pts → AllTake F.pads F.rest F.accepts low frame.shape readies filters.old t
+    requires { (low : ℤ) × (readies : List ReadyValue) × (t : Shape) × (low ≤ℤ frame.pts) × AllTake F.pads F.rest F.accepts low frame.shape readies filters.old t }
+    ensures frame { (low : ℤ) (readies : List ReadyValue) (t : Shape) → low ≤ℤ frame.pts → AllTake F.pads F.rest F.accepts low frame.shape readies filters.old t
         → IfOk result (λ f. f ≡ passed readies frame) }
-    ensures shape { (low : ℤ) (readies : List Ready) (t : Shape) → low ≤ℤ frame.pts → AllTake F.pads F.rest F.accepts low frame.shape readies filters.old t
+    ensures shape { (low : ℤ) (readies : List ReadyValue) (t : Shape) → low ≤ℤ frame.pts → AllTake F.pads F.rest F.accepts low frame.shape readies filters.old t
         → IfOk result (λ f. f.shape ≡ t) }
-    ensures take { (low : ℤ) (readies : List Ready) (t : Shape) → low ≤ℤ frame.pts → AllTake F.pads F.rest F.accepts low frame.shape readies filters.old t
+    ensures take { (low : ℤ) (readies : List ReadyValue) (t : Shape) → low ≤ℤ frame.pts → AllTake F.pads F.rest F.accepts low frame.shape readies filters.old t
         → OnOk result (AllTake F.pads F.rest F.accepts (frame.pts +ℤ pos 1) frame.shape readies filters.new t) }
 {
     let mut current = frame;
@@ -118,8 +115,6 @@ impl Chain {
         shape: Shape,
         end: Shape,
     ) -> Result<Chain, NoMemory>
-        requires lawful { IsLawful shape }
-        requires video { IsVideo shape.format }
         requires ready { (calls : List FilterCall) × AreReady calls shape readies.items end }
         ensures { IfOk result (λ c. c ≡ record { readies = readies.items; shape = shape; end = end; next = pos 0; spent = false }) }
     {

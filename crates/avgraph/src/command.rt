@@ -3,24 +3,24 @@ ghost use Rattle.std.specs.Prelude.{◌≡◌, ◌≤◌, List, length};
 ghost use Rattle.std.specs.List.{AllZip};
 ghost use Rattle.graph_text.specs.declared.graph.FilterCall.{FilterCall};
 ghost use Rattle.node_core.specs.Kinds.{IsKind};
-ghost use Rattle.avgraph.specs.HeaderTexts.{IsWritable};
+ghost use Rattle.y4m_io.specs.HeaderTexts.{IsWritable};
 ghost use Rattle.avgraph.specs.Commands.{Commands, Prepares, OpensFile, CreatesFile, stop_of_opening, stop_of_head};
-ghost use Rattle.avgraph.specs.Faults.{CountsStop};
+ghost use Rattle.avgraph.specs.Stops.{CountsStop};
 ghost use Rattle.avgraph.specs.declared.TheConstants.{LIMIT};
 
 use crate::LIMIT;
 use crate::chain::Chain;
-use crate::fault::{Fault, Stop};
-use crate::reader::Reader;
 use crate::ready::ready_chain;
 use crate::run::{pass_all, stopped_writing};
-use crate::writer::Writer;
 use av_base::{NoMemory, Shape};
+use av_faults::{Fault, Stop};
 use av_frame::{HeadError, Pools};
 use av_host::{Host, HostError};
 use node_core::Kind;
 use std::alloc::Global;
 use std::thread::Threads;
+use y4m_io::reader::Reader;
+use y4m_io::writer::Writer;
 
 /// What a refused opening or creation stops the command with.
 fn stopped_opening(error: HostError) -> Stop

@@ -1,7 +1,7 @@
 //! The filters of a chain, made ready for the pictures of an input.
 ghost use Rattle.std.specs.Prelude.{◌≡◌, ◌⊎◌, ◌≤◌, List, [], ◌∷◌, false, length, IsTrue, IfOk, IfErr};
 ghost use Rattle.std.specs.List.{AllZip, AllByRecursion};
-ghost use Rattle.av_base.specs.Shapes.{IsLawful, IsVideo};
+ghost use Rattle.av_frame.specs.Limits.{IsPictureShape};
 ghost use Rattle.av_frame.specs.declared.refusals.ConfigError.TheVariants as config;
 ghost use Rattle.graph_text.specs.declared.graph.FilterCall.{FilterCall};
 ghost use Rattle.node_core.specs.Kinds.{IsKind};
@@ -9,11 +9,11 @@ ghost use Rattle.node_core.specs.Shaping.{Takes, IsReady, IsConfigFault};
 ghost use Rattle.avgraph.specs.Chains.{AreReady};
 ghost use Rattle.avgraph.specs.Answers.{IsUnready, IsUntaken};
 ghost use Rattle.avgraph.specs.Commands.{IsChainFor, StopsShape};
-ghost use Rattle.avgraph.specs.Faults.{config_stop};
+ghost use Rattle.avgraph.specs.Stops.{config_stop};
 
 use crate::chain::Chain;
-use crate::fault::{Fault, Stop};
 use av_base::{Format, List, NoMemory, Shape};
+use av_faults::{Fault, Stop};
 use av_frame::ConfigError;
 use node_core::{Kind, Ready};
 use std::alloc::Global;
@@ -55,8 +55,7 @@ fn all_take(kinds: &[Kind], format: Format) -> bool
 
 /// A filter, made ready for pictures of a shape.
 fn make_ready(alloc: Global, kind: &Kind, shape: Shape) -> Result<Ready, ConfigError>
-    requires lawful { IsLawful shape }
-    requires video { IsVideo shape.format }
+    requires picture { IsPictureShape shape }
     requires takes { Takes kind.now shape.format }
     ensures ready { IfOk result (IsReady kind.now shape) }
     ensures refused { IfErr result (λ e. (e ≡ config.NoMemory) ⊎ IsConfigFault kind.now shape e) }
@@ -75,8 +74,7 @@ struct Readied {
 
 /// Makes the filters ready one behind the other, the first for pictures of a shape.
 fn make_all_ready(alloc: Global, kinds: &[Kind], shape: Shape) -> Result<Readied, Stop>
-    requires lawful { IsLawful shape }
-    requires video { IsVideo shape.format }
+    requires picture { IsPictureShape shape }
     requires few { length kinds.now ≤ 256 }
     requires taking { AllByRecursion (λ kind. Takes kind shape.format) kinds.now }
     ensures ready { (calls : List FilterCall) → AllZip IsKind calls kinds.now → IfOk result (λ r. AreReady calls shape r.readies.items r.end) }
@@ -104,8 +102,7 @@ fn make_all_ready(alloc: Global, kinds: &[Kind], shape: Shape) -> Result<Readied
 /// `NoCommonFormat` where a filter doesn't take pictures of the shape's format; else what stands against the first filter
 /// that can't be made ready. Want of memory.
 pub(crate) fn ready_chain(alloc: Global, kinds: &[Kind], shape: Shape) -> Result<Chain, Stop>
-    requires lawful { IsLawful shape }
-    requires video { IsVideo shape.format }
+    requires picture { IsPictureShape shape }
     requires few { length kinds.now ≤ 256 }
     requires named { (calls : List FilterCall) × AllZip IsKind calls kinds.now }
     ensures ready { (calls : List FilterCall) → AllZip IsKind calls kinds.now → IfOk result (IsChainFor calls shape) }

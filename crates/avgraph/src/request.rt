@@ -3,10 +3,10 @@ ghost use Rattle.std.specs.Prelude.{◌≡◌, ◌⊎◌, ◌<◌, ◌≤◌, �
 ghost use Rattle.std.specs.List.{AllZip, AllByRecursion};
 ghost use Rattle.graph_text.specs.declared.graph.FilterCall.{FilterCall};
 ghost use Rattle.node_core.specs.Kinds.{IsKind};
-ghost use Rattle.avgraph.specs.Faults.{option_stop};
+ghost use Rattle.avgraph.specs.Stops.{option_stop};
 ghost use Rattle.avgraph.specs.Requests.{IsBare, SaysFilters, IsRefusedCall, StopsCalls, StopsText};
 
-use crate::fault::{Fault, LimitKind, Stop};
+use av_faults::{Fault, LimitKind, Stop};
 use av_frame::OptionError;
 use av_text::TextError;
 use graph_text::{FilterCall, parse};

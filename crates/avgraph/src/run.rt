@@ -1,19 +1,19 @@
 //! The loop from an input to an output.
 ghost use Rattle.std.specs.Prelude.{◌≡◌, pos, false, IsTrue, IsSome};
 ghost use Rattle.avgraph.specs.Running.{Runs, stop_of_next, stop_of_write};
-ghost use Rattle.avgraph.specs.Faults.{CountsStop};
-ghost use Rattle.avgraph.specs.declared.stages.Stage.{Stage};
-ghost use Rattle.avgraph.specs.declared.stages.Progress.{Progress};
+ghost use Rattle.avgraph.specs.Stops.{CountsStop};
+ghost use Rattle.y4m_io.specs.declared.y4m_state.Stage.{Stage};
+ghost use Rattle.y4m_io.specs.declared.y4m_state.Progress.{Progress};
 
 use crate::chain::Chain;
-use crate::fault::{Fault, Stop};
-use crate::reader::Reader;
-use crate::writer::Writer;
 use av_base::NoMemory;
+use av_faults::{Fault, Stop};
 use av_frame::{NextError, Pools, WriteError};
 use av_host::Host;
 use std::alloc::Global;
 use std::thread::Threads;
+use y4m_io::reader::Reader;
+use y4m_io::writer::Writer;
 
 /// What a refused frame stops the command with.
 pub(crate) fn stopped_reading(error: NextError) -> Stop

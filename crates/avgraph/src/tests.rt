@@ -1,9 +1,7 @@
 //! The command over hosts in memory, by hand-made files.
 
-use crate::reader::Reader;
 use crate::{OpenGate, avgraph};
-use av_frame::HeadError;
-use av_host::{Host, MemoryHost};
+use av_host::MemoryHost;
 use std::alloc::{AllocError, Global};
 use std::process::Abort;
 use std::test::Fail;
@@ -190,30 +188,4 @@ fn a_missing_input_is_not_opened(rt: HostRuntime) -> Result<(), Fail> {
     assert_eq!(rt; host.said(), b"avgraph: OpenFault count=1\n".as_slice());
     assert!(rt; host.output("b.y4m").is_none());
     Ok(())
-}
-
-/// What refuses the header of `a.y4m`, of which so many bytes may be read.
-fn refusal(rt: &impl Abort, alloc: Global, host: &mut MemoryHost, limit: u64) -> Option<HeadError> {
-    let id = host.open_input("a.y4m").ok().expect(rt, "an id");
-    let mut reader = Reader::new(alloc, id, limit).ok().expect(rt, "a reader");
-    reader.header(alloc, host).err()
-}
-
-#[test]
-fn a_header_past_the_limit_is_too_long(rt: HostRuntime) {
-    for (limit, refused) in [
-        (0, Some(HeadError::TooLong)),
-        (20, Some(HeadError::TooLong)),
-        (26, Some(HeadError::TooLong)),
-        (27, None),
-        (1 << 40, None),
-    ] {
-        let mut host = host_with(&rt, rt.alloc(), FILE);
-        assert_eq!(rt; refusal(&rt, rt.alloc(), &mut host, limit), refused);
-    }
-    let mut host = host_with(&rt, rt.alloc(), &FILE[..20]);
-    assert_eq!(rt;
-        refusal(&rt, rt.alloc(), &mut host, 20),
-        Some(HeadError::BadHeader)
-    );
 }

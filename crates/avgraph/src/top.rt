@@ -2,18 +2,17 @@
 ghost use Rattle.std.specs.Prelude.{◌≡◌, ◌≢◌, ◌⊎◌, map, Err, string_bytes};
 ghost use Rattle.std.specs.Option.{ForSome};
 ghost use Rattle.avgraph.specs.declared.TheConstants.{LIMIT};
-ghost use Rattle.avgraph.specs.declared.fault.Fault.{Fault};
-ghost use Rattle.avgraph.specs.declared.fault.Stop.{Stop};
+ghost use Rattle.av_faults.specs.declared.fault.Fault.{Fault};
+ghost use Rattle.av_faults.specs.declared.fault.Stop.{Stop};
 ghost use Rattle.avgraph.specs.Requests.{Request, IsRequest, IsRefused, IsRefusedAtOnce};
 ghost use Rattle.avgraph.specs.Answers.{IsReadyFor};
 ghost use Rattle.avgraph.specs.Headline.{Reports, Obeys, Acts, Refuses, HasCause, IsQuiet, Done, Completes, Keeps, Names, SaysStatus};
 
 use crate::command::run_command;
-use crate::fault::{Fault, Stop, line, status};
-use crate::host_runs::say_all;
+use crate::first_form::read_first_form;
 use crate::request::read_filters;
-use crate::words::read_words;
-use av_host::Host;
+use av_faults::{Fault, Stop, line, status};
+use av_host::{Host, say_all};
 use std::alloc::Global;
 use std::thread::Threads;
 
@@ -49,7 +48,7 @@ fn obey<R: Threads + Sync, H: Host>(
 ) -> Result<(), Stop>
     ensures { Obeys LIMIT (map string_bytes words.now) (H.world host.old) (H.world host.new) result }
 {
-    let Some((input, text, output)) = read_words(words) else {
+    let Some((input, text, output)) = read_first_form(words) else {
         return Err(Stop::Fault(Fault::NotYet));
     };
     match read_filters(alloc, text) {

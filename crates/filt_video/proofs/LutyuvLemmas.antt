@@ -1,22 +1,23 @@
 -- Tables of samples.
-use Rattle.std.proofs.Common.{◌≡◌, ◌≢◌, ◌<◌, ◌≤◌, ◌+◌, inl, inr, ⊎_elim, ℕ, ℤ, List, [], replicate, get_or, refl, sym, ◌∙◌, subst, arith}
-use Rattle.std.specs.Prelude.{pos, unsigned_abs, length}
+use Rattle.std.proofs.Common.{◌≡◌, ◌≢◌, ◌<◌, ◌≤◌, ◌+◌, inl, inr, ⊎_elim, ℕ, ℤ, List, [], replicate, get_or, refl, sym, ◌∙◌, ap, arith}
+use Rattle.std.specs.Prelude.{pos, unsigned_abs, length, slice_index, slice_index_or, Ok, Err}
 use Rattle.std.proofs.Math.ListN.{set}
 use Rattle.std.proofs.lemmas.Bool.{cases_eq, cases_lt}
 use Rattle.std.proofs.lemmas.List.{get_or-set_same, get_or-set_other, get_or-replicate, get_or_past}
-use Rattle.std.proofs.lemmas.Int.{ints}
 use Rattle.av_base.specs.Shapes.{planes_of, width_of, height_of}
 use Rattle.av_base.specs.declared.shapes.Shape.{Shape}
+use Rattle.av_expr.specs.Fractions.{IsCut}
+use Rattle.av_expr.specs.Trees.{Tree}
+use Rattle.av_expr.specs.declared.fraction.Fraction.{Fraction}
+use Rattle.av_frame.specs.Limits.{IsSmall, PassesLimit}
 use Rattle.av_frame.specs.declared.refusals.ConfigError.{ConfigError}
 use Rattle.av_frame.specs.declared.refusals.ConfigError.TheVariants.{NoValue}
-use Rattle.av_expr.specs.Trees.{Tree}
-use Rattle.av_expr.specs.Fractions.{IsCut}
-use Rattle.av_expr.specs.declared.fraction.Fraction.{Fraction}
-use Rattle.filt_video.specs.Worth.{IsWorth, IsWorthless}
-use Rattle.filt_video.specs.Geometry.{within, PassesLimit}
-use Rattle.filt_video.specs.Lutyuv.{expression_for, at_sample, IsEntry, AreTables, IsLutyuvFault, NoEntry, Large}
+use Rattle.filt_video.specs.Geometry.{within}
+use Rattle.filt_video.specs.Lutyuv.{expression_for, at_sample, IsEntry, IsTable, HasNoEntry, IsTables, lutyuv_outcome}
+use Rattle.filt_video.specs.Sizes.{within_room}
+use Rattle.filt_video.specs.Worth.{IsWorth}
 use Rattle.filt_video.specs.declared.lutyuv.LutyuvOptions.{LutyuvOptions}
-use Rattle.filt_video.proofs.CropLemmas.{within_room}
+use Rattle.filt_video.specs.declared.lutyuv.LutyuvSettings.{LutyuvSettings}
 
 -- what holds of each other member, and of what is put in place of one, holds of each
 pub set_each : {X : Type 0} (P : ℕ → X → Type 0) (xs : List X) (n : ℕ) (x d : X) → n < length xs → P n x → ((i : ℕ) → i ≢ n → P i (get_or xs i d))
@@ -56,17 +57,21 @@ entry_is tree plane val value z {n} worth cut is =
     record { value = value; worth = worth; z = z; cut = cut; n_is = rw e (sym m.1) }
 
 -- no value at a sample of a plane, where each plane before has its table
-pub no_entry : (o : LutyuvOptions) (s : Shape) (plane : ℕ) (tables : List (List ℕ)) (e : ConfigError) → plane < planes_of s → AreTables o plane tables
-    → e ≡ NoValue plane → (val : ℕ) → val < 256 → IsWorthless (expression_for o plane) (at_sample plane val) → IsLutyuvFault o s e
-no_entry o s plane tables e less before is val low none = subst (IsLutyuvFault o s) (sym is) (NoEntry plane val tables less low before none)
+pub no_entry : (o : LutyuvOptions) (s : Shape) (plane : ℕ) (tables : List (List ℕ)) (e : ConfigError) → plane < planes_of s
+    → ((p : ℕ) → p < plane → IsTable (expression_for o p) p (slice_index_or tables p [])) → e ≡ NoValue plane → HasNoEntry o plane → lutyuv_outcome o s (Err e)
+unfolding lutyuv_outcome
+no_entry o s plane tables e less before is none =
+    inl (plane, record { is_plane = less; none = none; before = λ p low val small. (slice_index (slice_index_or tables p []) val, before p low val small) }, ap Err is)
 
-pub past_limit : (o : LutyuvOptions) (s : Shape) (tables : List (List ℕ)) (e : ConfigError) → AreTables o (planes_of s) tables
-    → PassesLimit s (width_of s.props) (height_of s.props) e → IsLutyuvFault o s e
-past_limit o s tables e all large = Large tables e all large
+-- each plane has its table, and a limit is passed
+pub past_limit : (o : LutyuvOptions) (s : Shape) (tables : List (List ℕ)) (e : ConfigError) → ((p : ℕ) → p < planes_of s → IsTable (expression_for o p) p (slice_index_or tables p []))
+    → PassesLimit s (width_of s.props) (height_of s.props) e → lutyuv_outcome o s (Err e)
+unfolding lutyuv_outcome
+past_limit o s tables e all large =
+    inr (λ p low val small. (slice_index (slice_index_or tables p []) val, all p low val small), inl (e, large, refl))
 
--- the entries of tables are samples
-pub entry_small : {tree : Tree} {plane val n : ℕ} → IsEntry tree plane val n → n < 256
-entry_small {n = n} e =
-    let m = within_room 255 e.z in
-    let same : pos n ≡ pos m.0 = e.n_is ∙ m.1 in
-    omega (arith, ints, same, m.2)
+-- each plane has its table, and the limits are kept
+pub tables_are : (o : LutyuvOptions) (s : Shape) (t : LutyuvSettings) → IsTables o (planes_of s) t.tables → IsSmall s (width_of s.props) (height_of s.props) → lutyuv_outcome o s (Ok t)
+unfolding lutyuv_outcome
+tables_are o s t is small =
+    inr (λ p low val less. (slice_index (slice_index_or t.tables p []) val, is.entries p low val less), inr (small, (t.tables, is, refl)))

@@ -6,8 +6,8 @@ use Rattle.std.proofs.lemmas.Bool.{leb-true, leb-false, ltb-true, ltb-false}
 use Rattle.std.proofs.lemmas.Simd.{put_chunk_is, get_or-put_chunk_below, get_or-put_chunk_above, get_or-put_chunk_at}
 use Rattle.av_base.specs.Shapes.{rows_of, columns_of}
 use Rattle.av_frame.specs.Frames.{FrameValue}
-use Rattle.filt_video.specs.Maps.{sample}
-use Rattle.filt_video.specs.Geometry.{row_in, column_in}
+use Rattle.av_frame.specs.Pictures.{sample}
+use Rattle.av_frame.specs.Grid.{row_in, column_in}
 use Rattle.filt_video.specs.Pad.{is_among, colour_in, padded}
 use Rattle.filt_video.specs.declared.colour.Colour.{Colour}
 

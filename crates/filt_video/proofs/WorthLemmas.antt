@@ -1,33 +1,12 @@
 -- Values of expressions where variables stand for the same.
-use Rattle.std.proofs.Common.{◌≡◌, List, sym, ◌∙◌, refl, inl, inr}
+use Rattle.std.proofs.Common.{◌≡◌, List, sym, ◌∙◌, inl, inr}
 use Rattle.av_expr.specs.Trees.{Tree, Number, Variable, Negation, Binary}
 use Rattle.av_expr.specs.Values.{value_of, IsValue, HasNone}
 use Rattle.av_expr.specs.declared.vars.Var.{Var}
-use Rattle.av_expr.specs.declared.vars.Var.TheVariants.{InW, InH, OutW, OutH, Hsub, Vsub, MainW, MainH, OverW, OverH, Val, MinVal, MaxVal, NegVal, Pts, StartPts, N, Tb}
 use Rattle.av_expr.specs.declared.fraction.Fraction.{Fraction}
 use Rattle.av_expr.specs.declared.fault.NoValue.{NoValue}
+use Rattle.filt_video.specs.Values.{listed_is}
 use Rattle.filt_video.specs.Worth.{listed}
-
--- each variable stands in the list for what the function gives it
-pub listed_is : (f : Var → Fraction) (x : Var) → value_of (listed f) x ≡ f x
-listed_is f InW = refl
-listed_is f InH = refl
-listed_is f OutW = refl
-listed_is f OutH = refl
-listed_is f Hsub = refl
-listed_is f Vsub = refl
-listed_is f MainW = refl
-listed_is f MainH = refl
-listed_is f OverW = refl
-listed_is f OverH = refl
-listed_is f Val = refl
-listed_is f MinVal = refl
-listed_is f MaxVal = refl
-listed_is f NegVal = refl
-listed_is f Pts = refl
-listed_is f StartPts = refl
-listed_is f N = refl
-listed_is f Tb = refl
 
 value_same : (a b : List Fraction) → ((x : Var) → value_of a x ≡ value_of b x) → (t : Tree) (v : Fraction) → IsValue a t v → IsValue b t v
 value_same a b same (Number f) v h = h

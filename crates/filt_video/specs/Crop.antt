@@ -1,5 +1,5 @@
 -- Parts of pictures (FFmpeg Filters Documentation, crop; the order of the steps is this project's own).
-use Rattle.std.specs.Prelude.{◌≡◌, ◌≤◌, ◌+◌, ◌-◌, ℕ, ℤ, pos, ◌≤ℤ◌, List, [], ◌∷◌, Option, Some, Bool, codes, if◌then◌else◌}
+use Rattle.std.specs.Prelude.{◌≡◌, ◌≤◌, ◌+◌, ◌-◌, ℕ, ℤ, pos, unsigned_abs, ◌≤ℤ◌, List, [], ◌∷◌, Option, Some, Bool, Result, Ok, Err, codes, if◌then◌else◌}
 use Rattle.av_base.specs.Shapes.{width_of, height_of}
 use Rattle.av_base.specs.declared.shapes.Shape.{Shape}
 use Rattle.av_expr.specs.Fractions.{IsNearest}
@@ -8,13 +8,17 @@ use Rattle.av_expr.specs.Trees.{Tree}
 use Rattle.av_expr.specs.declared.vars.Var.{Var}
 use Rattle.av_expr.specs.declared.fraction.Fraction.{Fraction}
 use Rattle.av_frame.specs.Frames.{FrameValue}
-use Rattle.av_frame.specs.Words.{word_in}
+use Rattle.av_frame.specs.Grid.{step_across, step_down, column_in, row_in}
+use Rattle.av_frame.specs.Limits.{AfterLimits}
+use Rattle.av_frame.specs.Meanings.{OptionRules, is_complete, Making, Meaning}
 use Rattle.av_frame.specs.Options.{flags}
+use Rattle.av_frame.specs.Outcomes.{AfterValue, AfterCheck, AfterSizes}
+use Rattle.av_frame.specs.Pictures.{sample, painted}
+use Rattle.av_frame.specs.Words.{word_in}
 use Rattle.av_frame.specs.declared.refusals.ConfigError.{ConfigError}
 use Rattle.av_frame.specs.declared.refusals.ConfigError.TheVariants.{NoValue, BadGeometry}
-use Rattle.filt_video.specs.Maps.{sample}
 use Rattle.filt_video.specs.Worth.{set_of, TakesExpr, given, IsWorth, IsWorthless}
-use Rattle.filt_video.specs.Geometry.{step_across, step_down, on_grid, column_in, row_in, within, shown, sizes, width_vars, height_vars, place_vars, IsSmall, PassesLimit}
+use Rattle.filt_video.specs.Geometry.{on_grid, within, shown, resized, sizes, width_vars, height_vars, place_vars}
 use Rattle.filt_video.specs.declared.crop.CropOptions.{CropOptions}
 use Rattle.filt_video.specs.declared.crop.CropSettings.{CropSettings}
 
@@ -41,17 +45,14 @@ pub record CropHas (options : CropOptions) (o : ℕ) (text : Option (List ℕ)) 
   pub y : o ≡ 3 → IsExpr (set_of place_vars) (given (codes "(ih-oh)/2") text) options.y
   pub exact : o ≡ 5 → word_in flags (given (codes "0") text) ≡ Some options.exact
 
+abbrev pub crop_rules : OptionRules CropOptions
+crop_rules = record { count = 6; names = crop_names; takes = CropTakes; has = CropHas; completes = is_complete }
+
 -- ---- the picture
 
 -- out(p, r, c) = in(p, r + (y >> vs), c + (x >> hs))
 abbrev pub cropped : ℕ → ℕ → FrameValue → ℕ → ℕ → ℕ → ℕ
 cropped x y f p r c = sample f p (row_in f.shape p y + r) (column_in f.shape p x + c)
-
--- pictures of a shape have the part of the size of another that begins in column x and row y
-pub record IsPart (x y : ℕ) (s t : Shape) : Type 0 where
-  pub format : t.format ≡ s.format
-  pub width : x + width_of t.props ≤ width_of s.props
-  pub height : y + height_of t.props ≤ height_of s.props
 
 -- ---- the settings
 
@@ -70,45 +71,51 @@ grid_across o s = if o.exact then 1 else step_across s
 abbrev pub grid_down : CropOptions → Shape → ℕ
 grid_down o s = if o.exact then 1 else step_down s
 
--- the size of the output that is asked for: the height is asked for where the width is known
-abbrev pub AsksWidth : CropOptions → Shape → ℤ → Type 0
-AsksWidth o s w = IsRounded o.out_w (sizes s (pos 0) (pos 0)) (grid_across o s) w
-
-abbrev pub AsksHeight : CropOptions → Shape → ℤ → ℤ → Type 0
-AsksHeight o s w h = IsRounded o.out_h (sizes s w (pos 0)) (grid_down o s) h
-
--- all that is asked for: the size, and the place where the size is known
-pub record Asks (o : CropOptions) (s : Shape) (w h x y : ℤ) : Type 0 where
-  pub width : AsksWidth o s w
-  pub height : AsksHeight o s w h
-  pub column : IsRounded o.x (sizes s w h) 1 x
-  pub row : IsRounded o.y (sizes s w h) 1 y
-
 -- a side of the output fits into that of the input, of n samples
 abbrev pub FitsIn : ℕ → ℤ → Type 0
 FitsIn n z = (pos 1 ≤ℤ z) × (z ≤ℤ pos n)
 
--- the settings that the options give for pictures of a shape
-pub record IsCropped (o : CropOptions) (s : Shape) (t : CropSettings) : Type 0 where
-  pub x : ℤ
-  pub y : ℤ
-  pub asks : Asks o s (pos t.width) (pos t.height) x y
-  pub width : FitsIn (width_of s.props) (pos t.width)
-  pub height : FitsIn (height_of s.props) (pos t.height)
-  pub small : IsSmall s t.width t.height
-  pub x_is : pos t.x ≡ on_grid (grid_across o s) (within (pos 0) (pos (width_of s.props - t.width)) x)
-  pub y_is : pos t.y ≡ on_grid (grid_down o s) (within (pos 0) (pos (height_of s.props - t.height)) y)
+-- the step that takes the value of an option's expression
+abbrev pub AfterRounded : {R : Type 0} → Tree → (Var → Fraction) → ℕ → ℕ → (ℤ → Result R ConfigError → Type 0) → Result R ConfigError → Type 0
+AfterRounded tree variables step option = AfterValue (IsWorthless tree variables) (Err (NoValue option)) (IsRounded tree variables step)
 
--- what stands against them: the first expression without a value, then the first check that fails
-pub data IsCropFault (o : CropOptions) (s : Shape) : ConfigError → Type 0 where
-  NoWidth : IsWorthless o.out_w (sizes s (pos 0) (pos 0)) → IsCropFault o s (NoValue 0)
-  NoHeight : (w : ℤ) → AsksWidth o s w → IsWorthless o.out_h (sizes s w (pos 0)) → IsCropFault o s (NoValue 1)
-  NoColumn : (w h : ℤ) → AsksWidth o s w → AsksHeight o s w h → IsWorthless o.x (sizes s w h) → IsCropFault o s (NoValue 2)
-  NoRow : (w h x : ℤ) → AsksWidth o s w → AsksHeight o s w h → IsRounded o.x (sizes s w h) 1 x → IsWorthless o.y (sizes s w h)
-      → IsCropFault o s (NoValue 3)
-  BadWidth : (w h x y : ℤ) → Asks o s w h x y → ¬ FitsIn (width_of s.props) w
-      → IsCropFault o s (BadGeometry (shown w) (shown (pos (width_of s.props))))
-  BadHeight : (w h x y : ℤ) → Asks o s w h x y → FitsIn (width_of s.props) w → ¬ FitsIn (height_of s.props) h
-      → IsCropFault o s (BadGeometry (shown h) (shown (pos (height_of s.props))))
-  Large : (w h : ℕ) (x y : ℤ) (e : ConfigError) → Asks o s (pos w) (pos h) x y → FitsIn (width_of s.props) (pos w)
-      → FitsIn (height_of s.props) (pos h) → PassesLimit s w h e → IsCropFault o s e
+-- the step that checks a side
+abbrev pub AfterFit : {R : Type 0} → ℕ → ℤ → (Result R ConfigError → Type 0) → Result R ConfigError → Type 0
+AfterFit n z = AfterCheck (FitsIn n z) (Err (BadGeometry (shown z) (shown (pos n))))
+
+-- the place, brought into what is left of the input, and then down to the grid
+abbrev pub crop_settings : CropOptions → Shape → ℕ → ℕ → ℤ → ℤ → CropSettings
+crop_settings o s w h x y = record {
+  width = w;
+  height = h;
+  x = unsigned_abs (on_grid (grid_across o s) (within (pos 0) (pos (width_of s.props - w)) x));
+  y = unsigned_abs (on_grid (grid_down o s) (within (pos 0) (pos (height_of s.props - h)) y));
+}
+
+-- where the size and the place are known: the width fits, then the height, and then the limits are kept
+abbrev pub crop_checks : CropOptions → Shape → ℤ → ℤ → ℤ → ℤ → Result CropSettings ConfigError → Type 0
+crop_checks o s w h x y =
+    AfterFit (width_of s.props) w (
+    AfterFit (height_of s.props) h (
+    AfterSizes w h (λ m n.
+    AfterLimits s m n (λ r. r ≡ Ok (crop_settings o s m n x y)))))
+
+-- the width is known first, then the height, then the place
+unfoldable pub crop_outcome : CropOptions → Shape → Result CropSettings ConfigError → Type 0
+crop_outcome o s =
+    AfterRounded o.out_w (sizes s (pos 0) (pos 0)) (grid_across o s) 0 (λ w.
+    AfterRounded o.out_h (sizes s w (pos 0)) (grid_down o s) 1 (λ h.
+    AfterRounded o.x (sizes s w h) 1 2 (λ x.
+    AfterRounded o.y (sizes s w h) 1 3 (λ y.
+    crop_checks o s w h x y))))
+
+abbrev pub crop_making : Making CropOptions CropSettings
+crop_making = record {
+  takes = λ o f. Unit {0};
+  settles = crop_outcome;
+  shape = λ t. resized t.width t.height;
+  made = λ t x. painted (cropped t.x t.y) (resized t.width t.height x.shape) x;
+}
+
+abbrev pub crop : Meaning
+crop = record { Options = CropOptions; Settings = CropSettings; name = codes "crop"; options = crop_rules; making = crop_making }

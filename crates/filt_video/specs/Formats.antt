@@ -1,5 +1,5 @@
 -- Lists of formats (FFmpeg Filters Documentation, format; which formats there are is this project's own).
-use Rattle.std.specs.Prelude.{◌≡◌, ◌↔◌, ◌⊎◌, ◌==◌, ℕ, List, [], ◌∷◌, Option, Some, None, codes, Contains}
+use Rattle.std.specs.Prelude.{◌≡◌, ◌↔◌, ◌==◌, ℕ, List, [], ◌∷◌, Option, Some, None, Result, Ok, Err, codes, Contains}
 use Rattle.std.specs.List.{slice_split}
 use Rattle.av_base.specs.declared.formats.PixelFormat.{PixelFormat}
 use Rattle.av_base.specs.declared.formats.PixelFormat.TheVariants.{Gray, Yuv420p, Yuv422p, Yuv444p, Yuva420p, Yuva422p, Yuva444p}
@@ -7,11 +7,16 @@ use Rattle.av_base.specs.declared.formats.Format.{Format}
 use Rattle.av_base.specs.declared.formats.Format.TheVariants as format
 use Rattle.av_base.specs.declared.sets.FormatSet.{FormatSet}
 use Rattle.av_base.specs.FormatSets.{Has}
-use Rattle.av_text.specs.declared.arguments.Arg.{Arg}
+use Rattle.av_base.specs.Shapes.{width_of, height_of}
+use Rattle.av_base.specs.declared.shapes.Shape.{Shape}
+use Rattle.av_frame.specs.Limits.{AfterLimits}
+use Rattle.av_frame.specs.Meanings.{OptionRules, Making, Meaning}
 use Rattle.av_frame.specs.declared.refusals.OptionError.{OptionError}
 use Rattle.av_frame.specs.declared.refusals.OptionError.TheVariants.{MissingOption}
-use Rattle.av_frame.specs.Options.{AreTaken, IsFirstFault, IsGiven}
 use Rattle.av_frame.specs.Words.{word_in}
+use Rattle.av_frame.specs.declared.refusals.ConfigError.{ConfigError}
+use Rattle.filt_video.specs.declared.format.FormatOptions.{FormatOptions}
+use Rattle.filt_video.specs.declared.format.FormatRule.{FormatRule}
 
 -- the names of pixel formats
 abbrev pub format_words : List (List ℕ × PixelFormat)
@@ -57,16 +62,30 @@ formats_are given None = given ≡ None
 pub record FormatHas (given : Option FormatSet) (o : ℕ) (text : Option (List ℕ)) : Type 0 where
   pub list : o ≡ 0 → formats_are given text
 
--- no argument has a fault, and none gives a list
-pub record IsUnlisted (args : List Arg) (e : OptionError) : Type 0 where
-  pub taken : AreTaken 1 format_names format_takes args
-  pub none : IsGiven 1 format_names args 0 None
-  pub is : e ≡ MissingOption
+-- options without a list are rejected, and others are complete
+abbrev pub completed : FormatOptions → Option FormatSet → Result FormatOptions OptionError
+completed options None = Err MissingOption
+completed options (Some set) = Ok options
 
--- no argument has a fault, and the set is what the one that is given says
-abbrev pub IsListed : List Arg → FormatSet → Type 0
-IsListed args set = AreTaken 1 format_names format_takes args × (text : List ℕ) × IsGiven 1 format_names args 0 (Some text) × IsFormatList text set
+abbrev pub format_completes : FormatOptions → ℕ → Result FormatOptions OptionError → Type 0
+format_completes options n r = r ≡ completed options options.pix_fmts
 
--- what the arguments are refused for
-abbrev pub IsListFault : List Arg → OptionError → Type 0
-IsListFault args e = IsFirstFault 1 format_names format_takes args e ⊎ IsUnlisted args e
+abbrev pub format_rules : OptionRules FormatOptions
+format_rules = record { count = 1; names = format_names; takes = format_takes; has = λ options. FormatHas options.pix_fmts; completes = format_completes }
+
+-- ---- all together
+
+-- the list has the format
+abbrev pub IsListed : Option FormatSet → Format → Type 0
+IsListed None f = ⊥
+IsListed (Some set) f = Has set f
+
+-- the limits are checked
+unfoldable pub format_outcome : Shape → Result FormatRule ConfigError → Type 0
+format_outcome s = AfterLimits s (width_of s.props) (height_of s.props) (λ r. r ≡ Ok (record {}))
+
+abbrev pub format_making : Making FormatOptions FormatRule
+format_making = record { takes = λ options. IsListed options.pix_fmts; settles = λ options. format_outcome; shape = λ t s. s; made = λ t x. x }
+
+abbrev pub format_filter : Meaning
+format_filter = record { Options = FormatOptions; Settings = FormatRule; name = codes "format"; options = format_rules; making = format_making }

@@ -1,6 +1,6 @@
 -- Samples replaced by what an expression makes of them (FFmpeg Filters Documentation, lutyuv; that `val` is the default
 -- is this project's own).
-use Rattle.std.specs.Prelude.{◌≡◌, ◌<◌, ◌≤◌, ◌+◌, ◌-◌, ◌==◌, ℕ, ℤ, pos, min, max, List, [], ◌∷◌, Option, codes, length, slice_index, slice_index_or, if◌then◌else◌}
+use Rattle.std.specs.Prelude.{◌≡◌, ◌<◌, ◌≤◌, ◌+◌, ◌-◌, ◌==◌, ℕ, ℤ, pos, min, max, List, [], ◌∷◌, Option, Result, Ok, Err, codes, length, slice_index, slice_index_or, if◌then◌else◌}
 use Rattle.av_base.specs.Shapes.{planes_of, width_of, height_of}
 use Rattle.av_base.specs.declared.shapes.Shape.{Shape}
 use Rattle.av_expr.specs.Exprs.{IsExpr}
@@ -10,11 +10,14 @@ use Rattle.av_expr.specs.declared.vars.Var.{Var}
 use Rattle.av_expr.specs.declared.vars.Var.TheVariants.{Val, MinVal, MaxVal, NegVal}
 use Rattle.av_expr.specs.declared.fraction.Fraction.{Fraction}
 use Rattle.av_frame.specs.Frames.{FrameValue}
+use Rattle.av_frame.specs.Limits.{AfterLimits}
+use Rattle.av_frame.specs.Meanings.{OptionRules, is_complete, Making, Meaning}
+use Rattle.av_frame.specs.Outcomes.{AfterFault}
+use Rattle.av_frame.specs.Pictures.{sample, repainted}
 use Rattle.av_frame.specs.declared.refusals.ConfigError.{ConfigError}
 use Rattle.av_frame.specs.declared.refusals.ConfigError.TheVariants.{NoValue}
-use Rattle.filt_video.specs.Maps.{sample}
-use Rattle.filt_video.specs.Worth.{set_of, given, whole, IsWorth, IsWorthless}
-use Rattle.filt_video.specs.Geometry.{within, IsSmall, PassesLimit}
+use Rattle.filt_video.specs.Worth.{set_of, sample_vars, TakesExpr, given, whole, IsWorth, IsWorthless}
+use Rattle.filt_video.specs.Geometry.{within}
 use Rattle.filt_video.specs.declared.lutyuv.LutyuvOptions.{LutyuvOptions}
 use Rattle.filt_video.specs.declared.lutyuv.LutyuvSettings.{LutyuvSettings}
 
@@ -22,9 +25,6 @@ use Rattle.filt_video.specs.declared.lutyuv.LutyuvSettings.{LutyuvSettings}
 
 abbrev pub lutyuv_names : List (List ℕ × ℕ)
 lutyuv_names = (codes "y", 0) ∷ (codes "u", 1) ∷ (codes "v", 2) ∷ (codes "a", 3) ∷ []
-
-abbrev pub sample_vars : List Var
-sample_vars = Val ∷ MinVal ∷ MaxVal ∷ NegVal ∷ []
 
 -- the expression for a plane
 abbrev pub expression_for : LutyuvOptions → ℕ → Tree
@@ -49,7 +49,7 @@ looked_up tables x p r c = slice_index (slice_index_or tables p []) (sample x p 
 
 -- ---- the settings
 
--- the least and the greatest lawful sample of a plane: 16 to 235 in Y, 16 to 240 in U and V, 0 to 255 in A
+-- the lowest and the highest lawful sample of a plane: 16 to 235 in Y, 16 to 240 in U and V, 0 to 255 in A
 abbrev pub least_of : ℕ → ℕ
 least_of plane = if plane == 3 then 0 else 16
 
@@ -60,7 +60,7 @@ most_of plane = if plane == 0 then 235 else (if plane == 3 then 255 else 240)
 abbrev pub negated_in : ℕ → ℕ → ℕ
 negated_in plane val = (most_of plane + least_of plane) - max (least_of plane) (min val (most_of plane))
 
--- what the variables stand for at a sample
+-- the values of the variables at a sample
 abbrev pub at_sample : ℕ → ℕ → Var → Fraction
 at_sample plane val Val = whole (pos val)
 at_sample plane val MinVal = whole (pos (least_of plane))
@@ -80,22 +80,46 @@ pub record IsEntry (tree : Tree) (plane val n : ℕ) : Type 0 where
 abbrev pub IsTable : Tree → ℕ → List ℕ → Type 0
 IsTable tree plane table = (val : ℕ) → val < 256 → IsEntry tree plane val (slice_index table val)
 
--- each of the first planes has its table
-abbrev pub AreTables : LutyuvOptions → ℕ → List (List ℕ) → Type 0
-AreTables o planes tables = (p : ℕ) → p < planes → IsTable (expression_for o p) p (slice_index_or tables p [])
+-- a sample of plane p at which its expression has no value
+abbrev pub HasNoEntry : LutyuvOptions → ℕ → Type 0
+HasNoEntry o p = (val : ℕ) × (val < 256) × IsWorthless (expression_for o p) (at_sample p val)
 
--- the settings that the options give for pictures of a shape: four tables of 256 samples, of which those past the
--- format's planes hold zeros
-pub record IsLutyuv (o : LutyuvOptions) (s : Shape) (t : LutyuvSettings) : Type 0 where
-  pub tables : AreTables o (planes_of s) t.tables
-  pub count : length t.tables ≡ 4
-  pub long : (p : ℕ) → p < 4 → length (slice_index_or t.tables p []) ≡ 256
-  pub blank : (p : ℕ) → planes_of s ≤ p → (val : ℕ) → slice_index (slice_index_or t.tables p []) val ≡ 0
-  pub small : IsSmall s (width_of s.props) (height_of s.props)
+-- each sample of plane p has an entry
+abbrev pub HasTable : LutyuvOptions → ℕ → Type 0
+HasTable o p = (val : ℕ) → val < 256 → (n : ℕ) × IsEntry (expression_for o p) p val n
 
--- what stands against them: the first plane at a sample of which its expression has no value, then a limit
-pub data IsLutyuvFault (o : LutyuvOptions) (s : Shape) : ConfigError → Type 0 where
-  NoEntry : (plane val : ℕ) (tables : List (List ℕ)) → plane < planes_of s → val < 256 → AreTables o plane tables
-      → IsWorthless (expression_for o plane) (at_sample plane val) → IsLutyuvFault o s (NoValue plane)
-  Large : (tables : List (List ℕ)) (e : ConfigError) → AreTables o (planes_of s) tables → PassesLimit s (width_of s.props) (height_of s.props) e
-      → IsLutyuvFault o s e
+-- the first plane without a table, of so many planes
+pub record IsFirstWithout (o : LutyuvOptions) (planes plane : ℕ) : Type 0 where
+  pub is_plane : plane < planes
+  pub none : HasNoEntry o plane
+  pub before : (p : ℕ) → p < plane → HasTable o p
+
+-- four tables of 256 samples, of which those past the planes hold zeros
+pub record IsTables (o : LutyuvOptions) (planes : ℕ) (tables : List (List ℕ)) : Type 0 where
+  pub count : length tables ≡ 4
+  pub long : (p : ℕ) → p < 4 → length (slice_index_or tables p []) ≡ 256
+  pub entries : (p : ℕ) → p < planes → IsTable (expression_for o p) p (slice_index_or tables p [])
+  pub blank : (p : ℕ) → planes ≤ p → (val : ℕ) → slice_index (slice_index_or tables p []) val ≡ 0
+
+-- each plane has its table, or there is a first one without, and then the limits are kept
+unfoldable pub lutyuv_outcome : LutyuvOptions → Shape → Result LutyuvSettings ConfigError → Type 0
+lutyuv_outcome o s =
+    AfterFault (IsFirstWithout o (planes_of s)) (λ plane. Err (NoValue plane)) ((p : ℕ) → p < planes_of s → HasTable o p) (
+    AfterLimits s (width_of s.props) (height_of s.props) (λ r.
+    (tables : List (List ℕ)) × IsTables o (planes_of s) tables × (r ≡ Ok (record { tables = tables }))))
+
+-- ---- the filter
+
+abbrev pub lutyuv_rules : OptionRules LutyuvOptions
+lutyuv_rules = record { count = 4; names = lutyuv_names; takes = λ o. TakesExpr sample_vars; has = LutyuvHas; completes = is_complete }
+
+abbrev pub lutyuv_making : Making LutyuvOptions LutyuvSettings
+lutyuv_making = record {
+  takes = λ o f. Unit {0};
+  settles = lutyuv_outcome;
+  shape = λ t s. s;
+  made = λ t. repainted (looked_up t.tables);
+}
+
+abbrev pub lutyuv : Meaning
+lutyuv = record { Options = LutyuvOptions; Settings = LutyuvSettings; name = codes "lutyuv"; options = lutyuv_rules; making = lutyuv_making }

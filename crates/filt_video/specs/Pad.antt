@@ -1,6 +1,6 @@
 -- Pictures with an area around them (FFmpeg Filters Documentation, pad; the form `yuv/Y/U/V` of colours, sizes that aren't
 -- rounded and the order of the checks are this project's own).
-use Rattle.std.specs.Prelude.{◌≡◌, ◌<◌, ◌≤◌, ◌+◌, ◌-◌, ◌⊎◌, ◌==◌, ◌&&◌, ℕ, ℤ, zero, suc, pos, negsuc, ◌+ℤ◌, ◌-ℤ◌, ◌≤ℤ◌, List, [], ◌∷◌, Option, Some, None, Bool, codes, length, nat_lt, nat_le, if◌then◌else◌}
+use Rattle.std.specs.Prelude.{◌≡◌, ◌<◌, ◌+◌, ◌-◌, ◌⊎◌, ◌==◌, ◌&&◌, ℕ, ℤ, zero, suc, pos, negsuc, unsigned_abs, ◌+ℤ◌, ◌-ℤ◌, ◌≤ℤ◌, List, [], ◌∷◌, Option, Some, None, Bool, Result, Ok, Err, codes, length, nat_lt, nat_le, if◌then◌else◌}
 use Rattle.std.specs.List.{position_or_len, before_first, after_first}
 use Rattle.std.specs.Int.{int_div_euclid}
 use Rattle.av_base.specs.Shapes.{width_of, height_of, rows_of, columns_of}
@@ -11,13 +11,17 @@ use Rattle.av_expr.specs.Trees.{Tree}
 use Rattle.av_expr.specs.declared.vars.Var.{Var}
 use Rattle.av_expr.specs.declared.fraction.Fraction.{Fraction}
 use Rattle.av_frame.specs.Frames.{FrameValue}
-use Rattle.av_frame.specs.Words.{word_in}
+use Rattle.av_frame.specs.Grid.{step_across, step_down, column_in, row_in}
+use Rattle.av_frame.specs.Limits.{AfterLimits}
+use Rattle.av_frame.specs.Meanings.{OptionRules, is_complete, Making, Meaning}
 use Rattle.av_frame.specs.Options.{IsWholeWithin}
+use Rattle.av_frame.specs.Outcomes.{AfterValue, AfterCheck, AfterSizes}
+use Rattle.av_frame.specs.Pictures.{sample, painted}
+use Rattle.av_frame.specs.Words.{word_in}
 use Rattle.av_frame.specs.declared.refusals.ConfigError.{ConfigError}
 use Rattle.av_frame.specs.declared.refusals.ConfigError.TheVariants.{NoValue, BadGeometry}
-use Rattle.filt_video.specs.Maps.{sample}
 use Rattle.filt_video.specs.Worth.{set_of, TakesExpr, given, IsWorth, IsWorthless}
-use Rattle.filt_video.specs.Geometry.{step_across, step_down, on_grid, column_in, row_in, shown, sizes, width_vars, height_vars, place_vars, IsSmall, PassesLimit}
+use Rattle.filt_video.specs.Geometry.{on_grid, shown, resized, sizes, width_vars, height_vars, place_vars}
 use Rattle.filt_video.specs.declared.colour.Colour.{Colour}
 use Rattle.filt_video.specs.declared.pad.PadOptions.{PadOptions}
 use Rattle.filt_video.specs.declared.pad.PadSettings.{PadSettings}
@@ -30,7 +34,7 @@ colours = (codes "black", record { y = 16; u = 128; v = 128 }) ∷ (codes "white
 abbrev pub is_slash : ℕ → Bool
 is_slash c = c == 47
 
--- the text is one piece, a `/` behind it, and the rest
+-- the text is one piece, a `/` after it, and the rest
 pub record Splits (text piece rest : List ℕ) : Type 0 where
   pub has : position_or_len is_slash text < length text
   pub piece_is : piece ≡ before_first is_slash text
@@ -104,7 +108,7 @@ pub record IsCutValue (tree : Tree) (variables : Var → Fraction) (z : ℤ) : T
   pub worth : IsWorth tree variables value
   pub cut : IsCut value z
 
--- 0 stands for the input's size
+-- 0 means the input's size
 abbrev pub or_input : ℕ → ℤ → ℤ
 or_input n (pos zero) = pos n
 or_input n (pos (suc m)) = pos (suc m)
@@ -145,45 +149,66 @@ column_at s w x = placed (step_across s) (width_of s.props) w x
 abbrev pub row_at : Shape → ℤ → ℤ → ℤ
 row_at s h y = placed (step_down s) (height_of s.props) h y
 
--- the input's side of n stands at a place within the output's
+-- the input's side of n, from a place on, ends within the output's
 abbrev pub StandsIn : ℕ → ℤ → ℤ → Type 0
 StandsIn n side place = (place +ℤ pos n) ≤ℤ side
 
--- the settings that the options give for pictures of a shape
-pub record IsPadded (o : PadOptions) (s : Shape) (t : PadSettings) : Type 0 where
-  pub x : ℤ
-  pub y : ℤ
-  pub asks : Pads o s (pos t.width) (pos t.height) x y
-  pub width : width_of s.props ≤ t.width
-  pub height : height_of s.props ≤ t.height
-  pub x_is : pos t.x ≡ column_at s (pos t.width) x
-  pub y_is : pos t.y ≡ row_at s (pos t.height) y
-  pub column : StandsIn (width_of s.props) (pos t.width) (pos t.x)
-  pub row : StandsIn (height_of s.props) (pos t.height) (pos t.y)
-  pub small : IsSmall s t.width t.height
-  pub color : t.color ≡ o.color
+-- the steps that take the side that is asked for, and the value of an option's expression
+abbrev pub AfterSide : {R : Type 0} → Tree → (Var → Fraction) → ℕ → ℕ → (ℤ → Result R ConfigError → Type 0) → Result R ConfigError → Type 0
+AfterSide tree variables input option = AfterValue (IsWorthless tree variables) (Err (NoValue option)) (AsksSide tree variables input)
 
--- the output isn't smaller than the input
-pub record IsRoomy (s : Shape) (w h : ℤ) : Type 0 where
-  pub width : pos (width_of s.props) ≤ℤ w
-  pub height : pos (height_of s.props) ≤ℤ h
+abbrev pub AfterCut : {R : Type 0} → Tree → (Var → Fraction) → ℕ → (ℤ → Result R ConfigError → Type 0) → Result R ConfigError → Type 0
+AfterCut tree variables option = AfterValue (IsWorthless tree variables) (Err (NoValue option)) (IsCutValue tree variables)
 
--- what stands against them: the first expression without a value, then the first check that fails
-pub data IsPadFault (o : PadOptions) (s : Shape) : ConfigError → Type 0 where
-  NoWidth : IsWorthless o.width (sizes s (pos 0) (pos 0)) → IsPadFault o s (NoValue 0)
-  NoHeight : (w : ℤ) → PadsWidth o s w → IsWorthless o.height (sizes s w (pos 0)) → IsPadFault o s (NoValue 1)
-  NoColumn : (w h : ℤ) → PadsWidth o s w → PadsHeight o s w h → IsWorthless o.x (sizes s w h) → IsPadFault o s (NoValue 2)
-  NoRow : (w h x : ℤ) → PadsWidth o s w → PadsHeight o s w h → IsCutValue o.x (sizes s w h) x → IsWorthless o.y (sizes s w h)
-      → IsPadFault o s (NoValue 3)
-  BadWidth : (w h x y : ℤ) → Pads o s w h x y → ¬ (pos (width_of s.props) ≤ℤ w)
-      → IsPadFault o s (BadGeometry (shown w) (shown (pos (width_of s.props))))
-  BadHeight : (w h x y : ℤ) → Pads o s w h x y → pos (width_of s.props) ≤ℤ w → ¬ (pos (height_of s.props) ≤ℤ h)
-      → IsPadFault o s (BadGeometry (shown h) (shown (pos (height_of s.props))))
-  BadColumn : (w h x y : ℤ) → Pads o s w h x y → IsRoomy s w h → ¬ StandsIn (width_of s.props) w (column_at s w x)
-      → IsPadFault o s (BadGeometry (shown (column_at s w x +ℤ pos (width_of s.props))) (shown w))
-  BadRow : (w h x y : ℤ) → Pads o s w h x y → IsRoomy s w h → StandsIn (width_of s.props) w (column_at s w x)
-      → ¬ StandsIn (height_of s.props) h (row_at s h y)
-      → IsPadFault o s (BadGeometry (shown (row_at s h y +ℤ pos (height_of s.props))) (shown h))
-  Large : (w h : ℕ) (x y : ℤ) (e : ConfigError) → Pads o s (pos w) (pos h) x y → IsRoomy s (pos w) (pos h)
-      → StandsIn (width_of s.props) (pos w) (column_at s (pos w) x) → StandsIn (height_of s.props) (pos h) (row_at s (pos h) y)
-      → PassesLimit s w h e → IsPadFault o s e
+-- the step that checks that a side of the output isn't less than that of the input, of n samples
+abbrev pub AfterRoom : {R : Type 0} → ℕ → ℤ → (Result R ConfigError → Type 0) → Result R ConfigError → Type 0
+AfterRoom n side = AfterCheck (pos n ≤ℤ side) (Err (BadGeometry (shown side) (shown (pos n))))
+
+-- the step that checks that the input ends within the output
+abbrev pub AfterPlace : {R : Type 0} → ℕ → ℤ → ℤ → (Result R ConfigError → Type 0) → Result R ConfigError → Type 0
+AfterPlace n side place = AfterCheck (StandsIn n side place) (Err (BadGeometry (shown (place +ℤ pos n)) (shown side)))
+
+abbrev pub pad_settings : PadOptions → Shape → ℕ → ℕ → ℤ → ℤ → PadSettings
+pad_settings o s w h x y = record {
+  width = w;
+  height = h;
+  x = unsigned_abs (column_at s (pos w) x);
+  y = unsigned_abs (row_at s (pos h) y);
+  color = o.color;
+}
+
+-- where the size and the place are known: there is room in the width, then in the height, the input ends within the
+-- output, by column and then by row, and then the limits are kept
+abbrev pub pad_checks : PadOptions → Shape → ℤ → ℤ → ℤ → ℤ → Result PadSettings ConfigError → Type 0
+pad_checks o s w h x y =
+    AfterRoom (width_of s.props) w (
+    AfterRoom (height_of s.props) h (
+    AfterPlace (width_of s.props) w (column_at s w x) (
+    AfterPlace (height_of s.props) h (row_at s h y) (
+    AfterSizes w h (λ m n.
+    AfterLimits s m n (λ r. r ≡ Ok (pad_settings o s m n x y)))))))
+
+-- the width is known first, then the height, then the place
+unfoldable pub pad_outcome : PadOptions → Shape → Result PadSettings ConfigError → Type 0
+pad_outcome o s =
+    AfterSide o.width (sizes s (pos 0) (pos 0)) (width_of s.props) 0 (λ w.
+    AfterSide o.height (sizes s w (pos 0)) (height_of s.props) 1 (λ h.
+    AfterCut o.x (sizes s w h) 2 (λ x.
+    AfterCut o.y (sizes s w h) 3 (λ y.
+    pad_checks o s w h x y))))
+
+-- ---- the filter
+
+abbrev pub pad_rules : OptionRules PadOptions
+pad_rules = record { count = 5; names = pad_names; takes = PadTakes; has = PadHas; completes = is_complete }
+
+abbrev pub pad_making : Making PadOptions PadSettings
+pad_making = record {
+  takes = λ o f. Unit {0};
+  settles = pad_outcome;
+  shape = λ t. resized t.width t.height;
+  made = λ t x. painted (padded t.x t.y t.color) (resized t.width t.height x.shape) x;
+}
+
+abbrev pub pad : Meaning
+pad = record { Options = PadOptions; Settings = PadSettings; name = codes "pad"; options = pad_rules; making = pad_making }

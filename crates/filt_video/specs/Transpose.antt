@@ -1,6 +1,6 @@
 -- Pictures with rows and columns exchanged (FFmpeg Filters Documentation, transpose; for which formats is this project's
 -- own).
-use Rattle.std.specs.Prelude.{◌≡◌, ◌≢◌, ◌-◌, ℕ, Bool, false, List, [], ◌∷◌, Option, Some, None, codes, nat_le, nat_eq, if◌then◌else◌}
+use Rattle.std.specs.Prelude.{◌≡◌, ◌≢◌, ◌-◌, ℕ, Bool, false, List, [], ◌∷◌, Option, Some, None, Result, Ok, codes, nat_le, nat_eq, if◌then◌else◌}
 use Rattle.av_base.specs.declared.numbers.Ratio.{Ratio}
 use Rattle.av_base.specs.declared.formats.Format.{Format}
 use Rattle.av_base.specs.declared.formats.PixelFormat.TheVariants.{Yuv422p, Yuva422p}
@@ -10,14 +10,17 @@ use Rattle.av_base.specs.declared.shapes.Props.{Props}
 use Rattle.av_base.specs.declared.shapes.Props.TheVariants as props
 use Rattle.av_base.specs.Shapes.{columns_of, rows_of, width_of, height_of}
 use Rattle.av_frame.specs.Frames.{FrameValue}
+use Rattle.av_frame.specs.Limits.{AfterLimits}
+use Rattle.av_frame.specs.Meanings.{OptionRules, is_complete, Making, Meaning}
+use Rattle.av_frame.specs.Pictures.{sample, painted}
 use Rattle.av_frame.specs.Words.{word_in}
-use Rattle.filt_video.specs.declared.turns.Turn.{Turn}
-use Rattle.filt_video.specs.declared.turns.Turn.TheVariants.{CclockFlip, Clock, Cclock, ClockFlip}
-use Rattle.filt_video.specs.declared.turns.Passthrough.{Passthrough}
-use Rattle.filt_video.specs.declared.turns.Passthrough.TheVariants.{Never, Portrait, Landscape}
-use Rattle.filt_video.specs.declared.turns.TransposeOptions.{TransposeOptions}
-use Rattle.filt_video.specs.declared.turns.TransposeSettings.{TransposeSettings}
-use Rattle.filt_video.specs.Maps.{sample, painted}
+use Rattle.av_frame.specs.declared.refusals.ConfigError.{ConfigError}
+use Rattle.filt_video.specs.declared.transpose.Turn.{Turn}
+use Rattle.filt_video.specs.declared.transpose.Turn.TheVariants.{CclockFlip, Clock, Cclock, ClockFlip}
+use Rattle.filt_video.specs.declared.transpose.Passthrough.{Passthrough}
+use Rattle.filt_video.specs.declared.transpose.Passthrough.TheVariants.{Never, Portrait, Landscape}
+use Rattle.filt_video.specs.declared.transpose.TransposeOptions.{TransposeOptions}
+use Rattle.filt_video.specs.declared.transpose.TransposeSettings.{TransposeSettings}
 
 -- ---- options
 
@@ -55,6 +58,9 @@ pub record TransposeHas (options : TransposeOptions) (o : ℕ) (text : Option (L
   pub dir : o ≡ 0 → turn_is options.dir text
   pub passthrough : o ≡ 1 → passthrough_is options.passthrough text
 
+abbrev pub transpose_rules : OptionRules TransposeOptions
+transpose_rules = record { count = 2; names = transpose_names; takes = TransposeTakes; has = TransposeHas; completes = is_complete }
+
 -- ---- settings and shapes
 
 -- the format isn't one of 4:2:2, of which a turned picture would be of another
@@ -84,6 +90,12 @@ turned_shape s = record s { props = turned_props s.props }
 abbrev pub transposed_shape : TransposeSettings → Shape → Shape
 transposed_shape settings s = if settings.passes then s else turned_shape s
 
+-- the limits of the output are checked
+unfoldable pub transpose_outcome : TransposeOptions → Shape → Result TransposeSettings ConfigError → Type 0
+transpose_outcome o s =
+    AfterLimits (transposed_shape (transpose_settings o s) s) (width_of (transposed_shape (transpose_settings o s) s).props) (height_of (transposed_shape (transpose_settings o s) s).props)
+    (λ r. r ≡ Ok (transpose_settings o s))
+
 -- ---- pictures
 
 -- out(p, r, c), where plane p of the input has w columns and h rows
@@ -100,15 +112,28 @@ transposed settings s x = if settings.passes then x else painted (turned setting
 -- ---- where a sample comes from
 
 -- the row of the input, of h rows, that column c of the output comes from
-abbrev pub row_behind : Turn → ℕ → ℕ → ℕ
-row_behind CclockFlip h c = c
-row_behind Clock h c = (h - 1) - c
-row_behind Cclock h c = c
-row_behind ClockFlip h c = (h - 1) - c
+abbrev pub source_row : Turn → ℕ → ℕ → ℕ
+source_row CclockFlip h c = c
+source_row Clock h c = (h - 1) - c
+source_row Cclock h c = c
+source_row ClockFlip h c = (h - 1) - c
 
 -- the column of the input, of w columns, that row r of the output comes from
-abbrev pub column_behind : Turn → ℕ → ℕ → ℕ
-column_behind CclockFlip w r = r
-column_behind Clock w r = r
-column_behind Cclock w r = (w - 1) - r
-column_behind ClockFlip w r = (w - 1) - r
+abbrev pub source_column : Turn → ℕ → ℕ → ℕ
+source_column CclockFlip w r = r
+source_column Clock w r = r
+source_column Cclock w r = (w - 1) - r
+source_column ClockFlip w r = (w - 1) - r
+
+-- ---- all together
+
+abbrev pub transpose_making : Making TransposeOptions TransposeSettings
+transpose_making = record {
+  takes = λ o. IsTurnable;
+  settles = transpose_outcome;
+  shape = transposed_shape;
+  made = λ t x. transposed t x.shape x;
+}
+
+abbrev pub transpose : Meaning
+transpose = record { Options = TransposeOptions; Settings = TransposeSettings; name = codes "transpose"; options = transpose_rules; making = transpose_making }

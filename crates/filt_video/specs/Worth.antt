@@ -1,4 +1,4 @@
--- Expressions as options, and what one is worth where its variables stand for given fractions.
+-- Expressions as options, and the value of one at given values of its variables.
 use Rattle.std.specs.Prelude.{◌<◌, ◌^◌, ℕ, ℤ, pos, List, [], ◌∷◌, Option, Some, None, length}
 use Rattle.av_expr.specs.Vars.{together}
 use Rattle.av_expr.specs.Exprs.{IsExpr}
@@ -20,6 +20,10 @@ set_of vars = record { bits = together vars }
 abbrev pub TakesExpr : List Var → List ℕ → Type 0
 TakesExpr vars text = (length text < 2 ^ 32) × ((tree : Tree) × IsExpr (set_of vars) text tree)
 
+-- the variables of a sample
+abbrev pub sample_vars : List Var
+sample_vars = Val ∷ MinVal ∷ MaxVal ∷ NegVal ∷ []
+
 -- the text that is given, or the default
 abbrev pub given : List ℕ → Option (List ℕ) → List ℕ
 given default None = default
@@ -31,7 +35,7 @@ given default (Some text) = text
 abbrev pub whole : ℤ → Fraction
 whole z = record { num = z; den = pos 1 }
 
--- what the variables stand for, in their order
+-- the values of the variables, in their order
 abbrev pub listed : (Var → Fraction) → List Fraction
 listed f = f InW ∷ f InH ∷ f OutW ∷ f OutH ∷ f Hsub ∷ f Vsub ∷ f MainW ∷ f MainH ∷ f OverW ∷ f OverH ∷ f Val ∷ f MinVal ∷ f MaxVal ∷ f NegVal ∷ f Pts ∷ f StartPts ∷ f N ∷ f Tb ∷ []
 

@@ -23,7 +23,7 @@ pub(crate) const BLACK: Colour = Colour {
     v: 128,
 };
 
-/// A piece, and the rest behind the first `/`.
+/// A piece, and the rest after the first `/`.
 fn split(text: &str) -> Option<(&str, &str)>
     ensures some { IfSome result (λ p. Splits text.now p.0.now p.1.now) }
     ensures none { IsNone result → (piece rest : List ℕ) → ¬ Splits text.now piece rest }

@@ -1,53 +1,47 @@
 //! The filter `format`: frames pass, whose format is one of a list.
-ghost use Rattle.std.specs.Prelude.{◌≡◌, ◌<◌, ◌^◌, ◌⊎◌, ℕ, List, [], ◌∷◌, Some, None, length, IfOk, IfErr};
-ghost use Rattle.av_base.specs.declared.shapes.Shape.{Shape};
-ghost use Rattle.av_base.specs.FormatSets.{Has};
-ghost use Rattle.av_frame.specs.FilterLaws.{IsNew, one_to};
-ghost use Rattle.av_frame.specs.Rules.{each_rule};
-ghost use Rattle.av_frame.specs.Options.{AreTaken, IsFirstFault, IsGiven};
-ghost use Rattle.av_frame.specs.declared.refusals.OptionError.TheVariants as option;
-ghost use Rattle.av_frame.specs.declared.refusals.ConfigError.TheVariants as config;
-ghost use Rattle.filt_video.specs.Geometry.{IsOnly, IsTooLarge};
-ghost use Rattle.filt_video.specs.Maps.{IsPictured};
-ghost use Rattle.filt_video.specs.Formats.{format_names, format_takes, FormatHas, IsFormatList, IsUnlisted};
-
 use crate::format_list::read_formats;
-use crate::framewise::Framewise;
-use crate::painted::Passed;
-use crate::plain::{NoSettings, keep_within_limits, only};
 use av_base::{Format, FormatSet, List, NoMemory, Shape};
 use av_frame::{
-    ConfigError, Filter, Frame, OptionError, Options, PerFrame, Returned, read_options,
+    ConfigError, Frame, FrameRule, Framewise, NamedRule, OptionError, Options, Pools, Returned,
+    check_shape, read_options,
 };
 use av_text::Arg;
 use std::alloc::Global;
-use std::thread::Threads;
 
-/// The option `pix_fmts`, while arguments are read.
-#[derive(Clone, Copy)]
-struct ListedFormats {
-    pix_fmts: Option<FormatSet>,
+/// The filter `format`. Which formats may pass is settled before it is configured.
+pub type FormatFilter = Framewise<FormatRule>;
+
+/// The option `pix_fmts`, which has no default: names of pixel formats, joined by `|`. `BadValue` means that a part of a
+/// value names no format, `MissingOption` that no list is given.
+#[derive(Clone, Copy, Debug, PartialEq, Eq, Drop)]
+pub struct FormatOptions {
+    /// The formats that may pass, once they are given.
+    pub pix_fmts: Option<FormatSet>,
 }
 
-impl Options for ListedFormats {
-    ghost use Rattle.std.proofs.Common.{arith};
-    ghost use Rattle.av_frame.specs.WordLaws.{word_below};
+/// Each frame is passed as it is.
+#[derive(Clone, Copy, Drop)]
+pub struct FormatRule;
 
-    ghost COUNT = { 1 };
+impl Options for FormatOptions {
+    ghost use Rattle.filt_video.specs.Formats.{format_rules};
+    ghost use Rattle.filt_video.specs.FormatLaws.{format_numbers};
 
-    ghost names = { format_names };
+    ghost rules = { format_rules };
 
-    ghost takes = { format_takes };
-
-    ghost has = { λ given. FormatHas given.pix_fmts };
-
-    const COUNT: u32 = 1;
+    fn count() -> u32 {
+        1
+    }
 
     fn numbered(name: &str) -> Option<u32> {
         match name {
             "pix_fmts" => Some(0),
             _ => None,
         }
+    }
+
+    fn defaults(_alloc: Global) -> Result<FormatOptions, NoMemory> {
+        Ok(FormatOptions { pix_fmts: None })
     }
 
     fn set(&mut self, _alloc: Global, _option: u32, value: &str) -> Result<bool, NoMemory> {
@@ -58,104 +52,64 @@ impl Options for ListedFormats {
         Ok(true)
     }
 
-    ghost numbers = { word_below 1 format_names (Prim.omega arith, tt) };
-}
-
-/// The option `pix_fmts`.
-#[derive(Clone, Copy, Debug, PartialEq, Eq)]
-pub struct FormatOptions {
-    /// The formats that may pass.
-    pub pix_fmts: FormatSet,
-}
-
-/// Passes each frame as it is.
-#[derive(Clone, Copy, Drop)]
-pub struct FormatRule {
-    passed: Passed,
-}
-
-impl PerFrame for FormatRule {
-    ghost use Rattle.std.proofs.Common.{arith, refl};
-
-    ghost outputs = { λ r. 1 };
-
-    ghost shape = { λ r. r.passed.shape };
-
-    ghost out_shape = { λ r o. r.passed.shape };
-
-    ghost made = { λ r o x. x };
-
-    ghost some = { λ r. Prim.omega arith };
-
-    ghost keeps = { λ r o x h. record { pts = refl; duration = refl } };
-
-    ghost shaped = { λ r o x h e. e };
-
-    fn make<R: Threads + Sync>(
-        &mut self,
-        rt: &R,
-        alloc: Global,
-        slices: u32,
-        frame: Frame,
-    ) -> Result<List<Frame>, Returned> {
-        self.passed.make(rt, alloc, slices, frame)
-    }
-}
-
-/// The filter `format`. Which formats may pass is settled before it is configured.
-pub type FormatFilter = Framewise<FormatRule>;
-
-impl FormatFilter {
-    /// Reads the filter's arguments: names of pixel formats, joined by `|`.
-    ///
-    /// # Errors
-    /// The first argument's fault, as `read_options` says: `BadValue` where a part of a value names no format. Where no
-    /// argument has a fault, `MissingOption` if none is given. Or want of memory.
-    pub fn read(alloc: Global, args: &List<Arg>) -> Result<FormatOptions, OptionError>
-        requires { length args.now < 2 ^ 32 }
-        ensures read { IfOk result (λ options. (text : List ℕ) × IsGiven 1 format_names args.now 0 (Some text) × IsFormatList text options.pix_fmts) }
-        ensures taken { IfOk result (λ _. AreTaken 1 format_names format_takes args.now) }
-        ensures refused { IfErr result (λ e. (e ≡ option.NoMemory) ⊎ IsFirstFault 1 format_names format_takes args.now e ⊎ IsUnlisted args.now e) }
-    {
-        let given = read_options(alloc, args, ListedFormats { pix_fmts: None })?;
-        match given.pix_fmts {
-            Some(pix_fmts) => Ok(FormatOptions { pix_fmts }),
+    fn complete(self, _arguments: u32) -> Result<FormatOptions, OptionError> {
+        match self.pix_fmts {
+            Some(_formats) => Ok(self),
             None => Err(OptionError::MissingOption),
         }
     }
 
-    /// The settings, and the output's shape, which is the input's.
-    ///
-    /// # Errors
-    /// `TooLarge`, or want of memory.
-    pub fn configure(
-        alloc: Global,
-        options: &FormatOptions,
-        ins: &List<Shape>,
-        _chosen: &List<Format>,
-    ) -> Result<(NoSettings, List<Shape>), ConfigError>
-        requires { (s : Shape) × IsOnly ins.now _chosen.now s × Has options.now.pix_fmts s.format }
-        ensures outs { IfOk result (λ r. r.1 ≡ ins.now) }
-        ensures pictured { (s : Shape) → ins.now ≡ s ∷ [] → IfOk result (λ _. IsPictured s) }
-        ensures refused { (s : Shape) → ins.now ≡ s ∷ [] → IfErr result (λ e. (e ≡ config.NoMemory) ⊎ IsTooLarge s e) }
-    {
-        Ok((NoSettings, keep_within_limits(alloc, ins)?))
+    ghost numbers = { format_numbers };
+}
+
+impl FrameRule for FormatRule {
+    ghost use Rattle.filt_video.specs.Formats.{format_making};
+    ghost use Rattle.filt_video.specs.FormatLaws.{format_making_laws};
+
+    type Options = FormatOptions;
+
+    ghost making = { format_making };
+
+    fn takes(options: &FormatOptions, format: Format) -> bool {
+        match options.pix_fmts {
+            Some(formats) => formats.has(format),
+            None => false,
+        }
     }
 
-    /// A new filter for frames of the input's shape.
-    ///
-    /// # Errors
-    /// Want of memory.
-    pub fn new(
-        alloc: Global,
-        _settings: NoSettings,
-        ins: &List<Shape>,
-    ) -> Result<FormatFilter, NoMemory>
-        requires { (s : Shape) × (ins.now ≡ s ∷ []) × IsPictured s }
-        ensures { (s : Shape) → ins.now ≡ s ∷ [] → IfOk result (λ f. IsNew (⟦<FormatFilter as Filter>⟧.pads f) (⟦<FormatFilter as Filter>⟧.rest f) (⟦<FormatFilter as Filter>⟧.accepts f)
-            (one_to 1) (each_rule (λ _ x. x)) (λ _. s) (λ _. s)) }
-    {
-        let passed = Passed::new(only(ins));
-        Framewise::by(alloc, FormatRule { passed })
+    #[tactic(auto, unfolding(crate::specs::Formats::format_outcome))]
+    fn settle(_options: &FormatOptions, shape: Shape) -> Result<FormatRule, ConfigError> {
+        check_shape(shape)?;
+        Ok(FormatRule)
     }
+
+    fn shape(&self, shape: Shape) -> Shape {
+        shape
+    }
+
+    fn make(&self, _alloc: Global, _pools: &mut Pools, frame: Frame) -> Result<Frame, Returned> {
+        Ok(frame)
+    }
+
+    ghost laws = { format_making_laws };
+}
+
+impl NamedRule for FormatRule {
+    ghost use Rattle.std.specs.Prelude.{codes};
+    ghost use Rattle.filt_video.specs.Formats.{format_rules};
+    ghost use Rattle.filt_video.specs.FormatLaws.{format_reading_laws};
+
+    ghost name = { codes "format" };
+
+    ghost options = { format_rules };
+
+    fn is_named(word: &str) -> bool {
+        word == "format"
+    }
+
+    fn read(alloc: Global, args: &List<Arg>) -> Result<FormatOptions, OptionError> {
+        read_options(alloc, args)
+    }
+
+    ghost one = { format_reading_laws };
 }

@@ -22,7 +22,7 @@ fn named(name: &str) -> Option<PixelFormat>
     }
 }
 
-/// The formats whose names stand in a text, joined by `|`. None where something else stands there.
+/// The formats whose names are in a text, joined by `|`. None if something else is there.
 pub(crate) fn read_formats(text: &str) -> Option<FormatSet>
     ensures found { IfSome result (IsFormatList text.now) }
     ensures none { IsNone result → (set : FormatSet) → ¬ IsFormatList text.now set }

@@ -1,111 +1,49 @@
 //! The filter `hflip`: pictures are turned from left to right.
-ghost use Rattle.std.specs.Prelude.{◌≡◌, ◌<◌, ◌^◌, ◌⊎◌, [], ◌∷◌, length, IfOk, IfErr};
-ghost use Rattle.av_base.specs.declared.shapes.Shape.{Shape};
-ghost use Rattle.av_frame.specs.FilterLaws.{IsNew, one_to};
-ghost use Rattle.av_frame.specs.Rules.{each_rule};
-ghost use Rattle.av_frame.specs.Options.{AreTaken, IsFirstFault};
-ghost use Rattle.av_frame.specs.declared.refusals.OptionError.TheVariants as option;
-ghost use Rattle.av_frame.specs.declared.refusals.ConfigError.TheVariants as config;
-ghost use Rattle.filt_video.specs.Geometry.{IsOnly, IsTooLarge};
-ghost use Rattle.filt_video.specs.Maps.{IsPictured, painted};
-ghost use Rattle.filt_video.specs.Hflip.{hflipped};
-
-use crate::framewise::Framewise;
-use crate::painted::{Painted, PictureMap};
-use crate::plain::{NoSettings, keep_within_limits, only};
-use crate::source::{read_part, read_sample, size_of};
-use av_base::{Format, List, NoMemory, Shape};
-use av_frame::{
-    ConfigError, Edit, Filter, Frame, Kernel, NoOptions, OptionError, paint, read_options,
-};
-use av_text::Arg;
+use crate::map_frame::map_frame;
+use av_frame::{Frame, Framewise, Plain, PlainRule, Pools, Returned, RowMap};
 use std::alloc::Global;
 
 /// The filter `hflip`. It has no options.
-pub type Hflip = Framewise<Painted<HflipMap>>;
+pub type Hflip = Framewise<Plain<HflipRule>>;
 
 /// The sample in column c is that of column w - 1 - c in the same plane and row.
 #[derive(Clone, Copy, Drop)]
-pub struct HflipMap;
+pub struct HflipRule;
 
-impl Kernel for HflipMap {
-    ghost use Rattle.av_frame.specs.Sources.{source_at};
-    ghost use Rattle.filt_video.specs.Maps.{HasPlace};
-    ghost use Rattle.filt_video.specs.Hflip.{hflipped};
+impl RowMap for HflipRule {
+    ghost use Rattle.std.specs.Prelude.{◌-◌, length, slice_index};
 
-    ghost fits = { λ k. HasPlace };
+    ghost value = { λ map p row c. slice_index row ((length row - 1) - c) };
 
-    ghost value = { λ k sources. hflipped (source_at sources 0) };
-
-    fn at(&self, sources: &mut [Frame], plane: u32, row: u32, column: u32) -> i32 {
-        let (columns, _rows) = size_of(sources, plane);
-        read_sample(sources, plane, row, columns - 1 - column)
-    }
-
-    fn row(&self, sources: &mut [Frame], plane: u32, row: u32, out: &mut [u8]) {
-        if out.is_empty() {
-            return;
-        }
-        let (columns, _rows) = size_of(sources, plane);
-        read_part(sources, plane, row, columns - out.len() as u32, out);
-        out.reverse();
+    fn map_row(&self, _plane: u32, row: &mut [u8]) {
+        row.reverse();
     }
 }
 
-impl PictureMap for HflipMap {
-    ghost use Rattle.std.specs.Prelude.{◌≡◌};
+impl PlainRule for HflipRule {
+    ghost use Rattle.std.specs.Prelude.{codes, refl};
+    ghost use Rattle.av_frame.specs.Pictures.{repainted, repainted_keeps};
     ghost use Rattle.filt_video.specs.Hflip.{hflipped};
 
-    ghost maps = { λ k shape out_shape. out_shape ≡ shape };
+    ghost name = { codes "hflip" };
 
-    ghost value = { λ k. hflipped };
+    ghost only = { record {} };
 
-    fn paint(&self, edit: &mut Edit, sources: &mut [Frame], row: &mut [u8]) {
-        paint(edit, self, sources, row);
-    }
-}
+    ghost made = { repainted hflipped };
 
-impl Hflip {
-    /// Reads the filter's arguments.
-    ///
-    /// # Errors
-    /// The first argument is refused, as the filter has no options; or want of memory.
-    pub fn read(alloc: Global, args: &List<Arg>) -> Result<NoOptions, OptionError>
-        requires { length args.now < 2 ^ 32 }
-        ensures taken { IfOk result (λ _. AreTaken 0 [] (λ _ _. ⊥) args.now) }
-        ensures refused { IfErr result (λ e. (e ≡ option.NoMemory) ⊎ IsFirstFault 0 [] (λ _ _. ⊥) args.now e) }
-    {
-        read_options(alloc, args, NoOptions)
+    fn is_named(word: &str) -> bool {
+        word == "hflip"
     }
 
-    /// The settings, and the output's shape, which is the input's.
-    ///
-    /// # Errors
-    /// `TooLarge`, or want of memory.
-    pub fn configure(
-        alloc: Global,
-        _options: &NoOptions,
-        ins: &List<Shape>,
-        _chosen: &List<Format>,
-    ) -> Result<(NoSettings, List<Shape>), ConfigError>
-        requires { (s : Shape) × IsOnly ins.now _chosen.now s }
-        ensures outs { IfOk result (λ r. r.1 ≡ ins.now) }
-        ensures pictured { (s : Shape) → ins.now ≡ s ∷ [] → IfOk result (λ _. IsPictured s) }
-        ensures refused { (s : Shape) → ins.now ≡ s ∷ [] → IfErr result (λ e. (e ≡ config.NoMemory) ⊎ IsTooLarge s e) }
-    {
-        Ok((NoSettings, keep_within_limits(alloc, ins)?))
+    fn new() -> HflipRule {
+        HflipRule
     }
 
-    /// A new filter for frames of the input's shape.
-    ///
-    /// # Errors
-    /// Want of memory.
-    pub fn new(alloc: Global, _settings: NoSettings, ins: &List<Shape>) -> Result<Hflip, NoMemory>
-        requires { (s : Shape) × (ins.now ≡ s ∷ []) × IsPictured s }
-        ensures { (s : Shape) → ins.now ≡ s ∷ [] → IfOk result (λ f. IsNew (⟦<Hflip as Filter>⟧.pads f) (⟦<Hflip as Filter>⟧.rest f) (⟦<Hflip as Filter>⟧.accepts f)
-            (one_to 1) (each_rule (λ _. painted hflipped s)) (λ _. s) (λ _. s)) }
-    {
-        let shape = only(ins);
-        Framewise::painting(alloc, HflipMap, shape, shape)
+    fn remake(alloc: Global, pools: &mut Pools, frame: Frame) -> Result<Frame, Returned> {
+        map_frame(alloc, pools, frame, &HflipRule)
     }
+
+    ghost keeps = { repainted_keeps hflipped };
+
+    ghost shaped = { λ x. refl };
 }

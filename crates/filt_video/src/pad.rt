@@ -1,49 +1,43 @@
 //! The filter `pad`: an area around each picture.
-ghost use Rattle.std.specs.Prelude.{◌≡◌, ◌<◌, ◌≤◌, ◌-◌, ◌^◌, ◌⊎◌, ℕ, ℤ, pos, ◌+ℤ◌, ◌≤ℤ◌, [], ◌∷◌, None, length, slice_index, if◌then◌else◌, ◌↔◌, IsTrue, IfOk, IfErr};
-ghost use Rattle.av_base.specs.declared.shapes.Shape.{Shape};
-ghost use Rattle.av_base.specs.Shapes.{IsLawful, IsVideo, planes_of, rows_of, columns_of};
+ghost use Rattle.std.specs.Prelude.{◌≡◌, ◌<◌, ◌≤◌, ◌-◌, ◌^◌, ◌⊎◌, ℕ, ℤ, pos, ◌+ℤ◌, ◌≤ℤ◌, Err, length, slice_index, if◌then◌else◌, ◌↔◌, IsTrue, IfOk, IfErr};
+ghost use Rattle.av_base.specs.Shapes.{planes_of, rows_of, columns_of};
 ghost use Rattle.av_expr.specs.declared.vars.Var.{Var};
 ghost use Rattle.av_expr.specs.declared.fraction.Fraction.{Fraction};
 ghost use Rattle.av_expr.specs.Values.{value_of};
-ghost use Rattle.av_frame.specs.FilterLaws.{IsNew, one_to};
-ghost use Rattle.av_frame.specs.Rules.{each_rule};
+ghost use Rattle.av_frame.specs.Grid.{column_in, row_in};
+ghost use Rattle.av_frame.specs.Limits.{IsPictureShape, IsPictured};
+ghost use Rattle.av_frame.specs.Pictures.{painted, sample};
 ghost use Rattle.av_frame.specs.Sources.{source_at};
-ghost use Rattle.av_frame.specs.Options.{HasGiven, AreTaken, IsFirstFault};
-ghost use Rattle.av_frame.specs.declared.refusals.OptionError.TheVariants as option;
 ghost use Rattle.av_frame.specs.declared.refusals.ConfigError.TheVariants as config;
-ghost use Rattle.filt_video.specs.Maps.{painted, sample};
 ghost use Rattle.filt_video.specs.Worth.{IsWorthless};
-ghost use Rattle.filt_video.specs.declared.pad.PadOptions.{PadOptions};
-ghost use Rattle.filt_video.specs.Geometry.{IsOnly, column_in, row_in, shown, resized};
-ghost use Rattle.filt_video.specs.Pad.{pad_names, PadTakes, PadHas, padded, is_among, IsCutValue, AsksSide, Pads, or_middle, placed, StandsIn, IsPadded, IsPadFault};
+ghost use Rattle.filt_video.specs.Geometry.{shown};
+ghost use Rattle.filt_video.specs.Pad.{is_among, IsCutValue, AsksSide, Pads, or_middle, placed, StandsIn, padded, pad_outcome};
 
 use crate::colour::{BLACK, Colour, read_colour};
-use crate::framewise::Framewise;
 use crate::geometry::{
-    check_limits, chroma_step, floor_to, height_variables, misfit, place_variables, resize, size,
-    size_values, start_in, width_variables,
+    floor_to, height_variables, misfit, place_variables, resize, size_values, width_variables,
 };
-use crate::painted::{Painted, PictureMap};
-use crate::plain::only;
+use crate::paint_frame::paint_frame;
 use crate::source::{read_part, read_sample, size_of};
 use crate::worth::{default_expr, set_expr, worth};
 use av_base::{Format, List, NoMemory, Shape};
 use av_expr::{Expr, Values};
 use av_frame::{
-    ConfigError, Edit, Filter, Frame, Kernel, OptionError, Options, paint, read_options,
+    ConfigError, Frame, FrameRule, Framewise, Kernel, NamedRule, OptionError, Options, Pools,
+    Returned, check_limits, chroma_step, picture_size, place_in, read_options,
 };
 use av_text::Arg;
 use std::alloc::Global;
 
 /// The filter `pad`.
-pub type Pad = Framewise<Painted<PadMap>>;
+pub type Pad = Framewise<PadSettings>;
 
 /// The options of `pad`.
 #[derive(Drop)]
 pub struct PadOptions {
-    /// The width of the output; 0 stands for the input's.
+    /// The width of the output; 0 means the input's.
     pub width: Expr,
-    /// Its height; 0 stands for the input's.
+    /// Its height; 0 means the input's.
     pub height: Expr,
     /// The column in which the input begins; below 0 it is in the middle.
     pub x: Expr,
@@ -54,7 +48,7 @@ pub struct PadOptions {
 }
 
 /// The area of `pad`, in samples of plane Y.
-#[derive(Clone, Copy, Debug, PartialEq, Eq)]
+#[derive(Clone, Copy, Debug, PartialEq, Eq, Drop)]
 pub struct PadSettings {
     /// Its width.
     pub width: u32,
@@ -85,7 +79,7 @@ fn cut(expr: &Expr, values: &Values, option: u32) -> Result<i128, ConfigError>
     Ok(worth(expr, values, option)?.cut())
 }
 
-/// A side of the output, for which 0 stands for the input's.
+/// A side of the output, for which 0 means the input's.
 fn side(expr: &Expr, values: &Values, option: u32, input: u32) -> Result<i128, ConfigError>
     ensures ok { (f : Var → Fraction) → ((x : Var) → value_of values.now x ≡ f x) → IfOk result (AsksSide expr.now f input) }
     ensures err { (f : Var → Fraction) → ((x : Var) → value_of values.now x ≡ f x) → IfErr result (λ e. (e ≡ config.NoValue option) × IsWorthless expr.now f) }
@@ -153,19 +147,14 @@ fn place(asked: i128, side: i128, input: u32, step: u32) -> Result<u128, ConfigE
 }
 
 impl Options for PadOptions {
-    ghost use Rattle.av_frame.specs.WordLaws.{word_below};
-    ghost use Rattle.std.proofs.Common.{arith};
-    ghost use Rattle.filt_video.specs.Pad.{pad_names, PadTakes, PadHas};
+    ghost use Rattle.filt_video.specs.Pad.{pad_rules};
+    ghost use Rattle.filt_video.specs.PadLaws.{pad_numbers};
 
-    ghost COUNT = { 5 };
+    ghost rules = { pad_rules };
 
-    ghost names = { pad_names };
-
-    ghost takes = { PadTakes };
-
-    ghost has = { PadHas };
-
-    const COUNT: u32 = 5;
+    fn count() -> u32 {
+        5
+    }
 
     fn numbered(name: &str) -> Option<u32> {
         match name {
@@ -176,6 +165,16 @@ impl Options for PadOptions {
             "color" => Some(4),
             _ => None,
         }
+    }
+
+    fn defaults(alloc: Global) -> Result<PadOptions, NoMemory> {
+        Ok(PadOptions {
+            width: default_expr(alloc, "iw", width_variables())?,
+            height: default_expr(alloc, "ih", height_variables())?,
+            x: default_expr(alloc, "0", place_variables())?,
+            y: default_expr(alloc, "0", place_variables())?,
+            color: BLACK,
+        })
     }
 
     fn set(&mut self, alloc: Global, option: u32, value: &str) -> Result<bool, NoMemory> {
@@ -194,31 +193,21 @@ impl Options for PadOptions {
         }
     }
 
-    ghost numbers = { word_below 5 pad_names (Prim.omega arith, (Prim.omega arith, (Prim.omega arith, (Prim.omega arith, (Prim.omega arith, (Prim.omega arith, (Prim.omega arith, tt))))))) };
+    fn complete(self, _arguments: u32) -> Result<PadOptions, OptionError> {
+        Ok(self)
+    }
+
+    ghost numbers = { pad_numbers };
 }
 
 impl PadOptions {
-    /// The defaults.
-    fn defaults(alloc: Global) -> Result<PadOptions, NoMemory>
-        ensures { IfOk result (λ options. (o : ℕ) → PadHas options o None) }
-    {
-        Ok(PadOptions {
-            width: default_expr(alloc, "iw", width_variables())?,
-            height: default_expr(alloc, "ih", height_variables())?,
-            x: default_expr(alloc, "0", place_variables())?,
-            y: default_expr(alloc, "0", place_variables())?,
-            color: BLACK,
-        })
-    }
-
     /// What the options ask for.
     fn ask(&self, shape: Shape) -> Result<Area, ConfigError>
-        requires lawful { IsLawful shape }
-        requires video { IsVideo shape.format }
+        requires { IsPictureShape shape }
         ensures ok { IfOk result (λ a. Pads self.now shape a.width a.height a.x a.y) }
-        ensures err { IfErr result (IsPadFault self.now shape) }
+        ensures err { IfErr result (λ e. pad_outcome self.now shape (Err e)) }
     {
-        let (in_width, in_height) = size(shape);
+        let (in_width, in_height) = picture_size(shape);
         let width = side(&self.width, &size_values(shape, 0, 0), 0, in_width)?;
         let height = side(&self.height, &size_values(shape, width, 0), 1, in_height)?;
         let values = size_values(shape, width, height);
@@ -229,30 +218,6 @@ impl PadOptions {
             height,
             x,
             y,
-        })
-    }
-
-    /// The area around pictures of a shape that the options ask for.
-    fn settle(&self, shape: Shape) -> Result<PadSettings, ConfigError>
-        requires lawful { IsLawful shape }
-        requires video { IsVideo shape.format }
-        ensures ok { IfOk result (IsPadded self.now shape) }
-        ensures err { IfErr result (IsPadFault self.now shape) }
-    {
-        let area = self.ask(shape)?;
-        let (in_width, in_height) = size(shape);
-        let (across, down) = chroma_step(shape);
-        let width = check_side(area.width, in_width)?;
-        let height = check_side(area.height, in_height)?;
-        let x = place(area.x, area.width, in_width, across)?;
-        let y = place(area.y, area.height, in_height, down)?;
-        check_limits(shape, width, height)?;
-        Ok(PadSettings {
-            width: width as u32,
-            height: height as u32,
-            x: x as u32,
-            y: y as u32,
-            color: self.color,
         })
     }
 }
@@ -273,6 +238,19 @@ fn fill(row: &mut [u8], value: u8)
     }
 }
 
+/// Where the column `x` and the row `y` of the input are in a plane.
+fn start_in(sources: &[Frame], plane: u32, x: u32, y: u32) -> (u32, u32)
+    requires some { 0 < length sources.now }
+    requires plane { plane < planes_of (source_at sources.now 0).shape }
+    ensures columns { columns_of (source_at sources.now 0).shape plane < 2 ^ 32 }
+    ensures rows { rows_of (source_at sources.now 0).shape plane < 2 ^ 32 }
+    ensures column { result.0 ≡ column_in (source_at sources.now 0).shape plane x }
+    ensures row { result.1 ≡ row_in (source_at sources.now 0).shape plane y }
+{
+    let _size = size_of(sources, plane);
+    place_in(sources[0].shape(), plane, x, y)
+}
+
 /// Copies a row of the input into a row of the output, from a column on, as far as that goes.
 fn copy_row(sources: &mut [Frame], plane: u32, row: u32, left: u32, out: &mut [u8])
     requires some { 0 < length sources.old }
@@ -288,16 +266,7 @@ fn copy_row(sources: &mut [Frame], plane: u32, row: u32, left: u32, out: &mut [u
     read_part(sources, plane, row, 0, &mut out[begin..end]);
 }
 
-/// The sample in a row and a column is that of the input as many rows and columns before it as the input's first ones
-/// stand in the plane, or the colour where there is none.
-#[derive(Clone, Copy, Drop)]
-pub struct PadMap {
-    x: u32,
-    y: u32,
-    color: Colour,
-}
-
-impl Kernel for PadMap {
+impl Kernel for PadSettings {
     ghost use Rattle.std.specs.Prelude.{◌<◌, length};
     ghost use Rattle.av_base.specs.Shapes.{planes_of};
     ghost use Rattle.av_frame.specs.Sources.{source_at};
@@ -330,74 +299,82 @@ impl Kernel for PadMap {
     }
 }
 
-impl PictureMap for PadMap {
-    ghost use Rattle.std.specs.Prelude.{◌≡◌, ◌<◌};
-    ghost use Rattle.filt_video.specs.Pad.{padded};
-
-    ghost maps = { λ k shape out_shape. (out_shape.format ≡ shape.format) × (k.color.y < 256) × (k.color.u < 256) × (k.color.v < 256) };
-
-    ghost value = { λ k. padded k.x k.y k.color };
-
-    fn paint(&self, edit: &mut Edit, sources: &mut [Frame], row: &mut [u8]) {
-        paint(edit, self, sources, row);
-    }
+/// The picture with the area around it.
+fn paint_area(
+    alloc: Global,
+    pools: &mut Pools,
+    frame: Frame,
+    settings: PadSettings,
+    out_shape: Shape,
+) -> Result<Frame, Returned>
+    requires pictured { IsPictured out_shape }
+    requires format { out_shape.format ≡ frame.shape.format }
+    ensures made { IfOk result (λ y. y ≡ painted (padded settings.x settings.y settings.color) out_shape frame) }
+    ensures returned { IfErr result (λ e. e.frame ≡ frame) }
+{
+    // Any frame is lawful, by this call's contract.
+    let _shape = frame.shape();
+    paint_frame(alloc, pools, frame, out_shape, &settings)
 }
 
-impl Pad {
-    /// Reads the filter's arguments.
-    ///
-    /// # Errors
-    /// The first argument's fault, as `read_options` says: `BadValue` where a value isn't an expression with its option's
-    /// variables, or a colour. Or want of memory.
-    pub fn read(alloc: Global, args: &List<Arg>) -> Result<PadOptions, OptionError>
-        requires { length args.now < 2 ^ 32 }
-        ensures read { IfOk result (λ options. HasGiven 5 pad_names (PadHas options) args.now) }
-        ensures taken { IfOk result (λ _. AreTaken 5 pad_names PadTakes args.now) }
-        ensures refused { IfErr result (λ e. (e ≡ option.NoMemory) ⊎ IsFirstFault 5 pad_names PadTakes args.now e) }
-    {
-        let options = PadOptions::defaults(alloc)?;
-        read_options(alloc, args, options)
+impl FrameRule for PadSettings {
+    ghost use Rattle.filt_video.specs.Pad.{pad_making};
+    ghost use Rattle.filt_video.specs.PadLaws.{pad_making_laws};
+
+    type Options = PadOptions;
+
+    ghost making = { pad_making };
+
+    fn takes(_options: &PadOptions, _format: Format) -> bool {
+        true
     }
 
-    /// The area, and the output's shape.
-    ///
-    /// # Errors
-    /// `NoValue` of the first option whose expression has no value; then `BadGeometry` for a width and then for a height
-    /// that is less than the input's, and for the end of the input where it is past the output's, by column and then by
-    /// row; then `TooLarge`. Or want of memory.
-    pub fn configure(
-        alloc: Global,
-        options: &PadOptions,
-        ins: &List<Shape>,
-        _chosen: &List<Format>,
-    ) -> Result<(PadSettings, List<Shape>), ConfigError>
-        requires { (s : Shape) × IsOnly ins.now _chosen.now s }
-        ensures ok { (s : Shape) → ins.now ≡ s ∷ [] → IfOk result (λ r. IsPadded options.now s r.0 × (r.1 ≡ resized r.0.width r.0.height s ∷ [])) }
-        ensures refused { (s : Shape) → ins.now ≡ s ∷ [] → IfErr result (λ e. (e ≡ config.NoMemory) ⊎ IsPadFault options.now s e) }
-    {
-        let shape = only(ins);
-        let settings = options.settle(shape)?;
-        let mut outs = Vec::new(alloc);
-        outs.push(resize(shape, settings.width, settings.height))?;
-        Ok((settings, List::new(outs)))
+    fn settle(options: &PadOptions, shape: Shape) -> Result<PadSettings, ConfigError> {
+        let area = options.ask(shape)?;
+        let (in_width, in_height) = picture_size(shape);
+        let (across, down) = chroma_step(shape);
+        let width = check_side(area.width, in_width)?;
+        let height = check_side(area.height, in_height)?;
+        let x = place(area.x, area.width, in_width, across)?;
+        let y = place(area.y, area.height, in_height, down)?;
+        check_limits(shape, width, height)?;
+        Ok(PadSettings {
+            width: width as u32,
+            height: height as u32,
+            x: x as u32,
+            y: y as u32,
+            color: options.color,
+        })
     }
 
-    /// A new filter, for frames of the input's shape and settings that `configure` gave with it.
-    ///
-    /// # Errors
-    /// Want of memory.
-    pub fn new(alloc: Global, settings: PadSettings, ins: &List<Shape>) -> Result<Pad, NoMemory>
-        requires { (s : Shape) × (o : PadOptions) × (ins.now ≡ s ∷ []) × IsLawful s × IsVideo s.format × IsPadded o s settings }
-        ensures { (s : Shape) → ins.now ≡ s ∷ [] → IfOk result (λ f. IsNew (⟦<Pad as Filter>⟧.pads f) (⟦<Pad as Filter>⟧.rest f) (⟦<Pad as Filter>⟧.accepts f)
-            (one_to 1) (each_rule (λ _. painted (padded settings.x settings.y settings.color) (resized settings.width settings.height s))) (λ _. s) (λ _. resized settings.width settings.height s)) }
-    {
-        let shape = only(ins);
-        let map = PadMap {
-            x: settings.x,
-            y: settings.y,
-            color: settings.color,
-        };
-        let out_shape = resize(shape, settings.width, settings.height);
-        Framewise::painting(alloc, map, shape, out_shape)
+    fn shape(&self, shape: Shape) -> Shape {
+        resize(shape, self.width, self.height)
     }
+
+    fn make(&self, alloc: Global, pools: &mut Pools, frame: Frame) -> Result<Frame, Returned> {
+        let out_shape = self.shape(frame.shape());
+        paint_area(alloc, pools, frame, *self, out_shape)
+    }
+
+    ghost laws = { pad_making_laws };
+}
+
+impl NamedRule for PadSettings {
+    ghost use Rattle.std.specs.Prelude.{codes};
+    ghost use Rattle.filt_video.specs.Pad.{pad_rules};
+    ghost use Rattle.filt_video.specs.PadLaws.{pad_reading_laws};
+
+    ghost name = { codes "pad" };
+
+    ghost options = { pad_rules };
+
+    fn is_named(word: &str) -> bool {
+        word == "pad"
+    }
+
+    fn read(alloc: Global, args: &List<Arg>) -> Result<PadOptions, OptionError> {
+        read_options(alloc, args)
+    }
+
+    ghost one = { pad_reading_laws };
 }

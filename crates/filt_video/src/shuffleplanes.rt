@@ -1,49 +1,43 @@
 //! The filter `shuffleplanes`: planes change places.
-ghost use Rattle.std.specs.Prelude.{◌≡◌, ◌<◌, ◌^◌, ◌⊎◌, ℕ, [], ◌∷◌, length, IfOk, IfErr};
-ghost use Rattle.av_base.specs.declared.shapes.Shape.{Shape};
-ghost use Rattle.av_base.specs.Shapes.{IsLawful, IsVideo, planes_of};
-ghost use Rattle.av_frame.specs.FilterLaws.{IsNew, one_to};
-ghost use Rattle.av_frame.specs.Rules.{each_rule};
-ghost use Rattle.av_frame.specs.Options.{HasGiven, AreTaken, IsFirstFault};
-ghost use Rattle.av_frame.specs.declared.refusals.OptionError.TheVariants as option;
-ghost use Rattle.av_frame.specs.declared.refusals.ConfigError.TheVariants as config;
-ghost use Rattle.filt_video.specs.Geometry.{IsOnly, IsTooLarge};
-ghost use Rattle.filt_video.specs.Maps.{IsPictured, painted};
-ghost use Rattle.filt_video.specs.Shuffleplanes.{order_names, order_takes, order_has, HasOrderFault, IsOrderRefused, IsOrderFault, IsFilled, IsOrder, shuffled};
+ghost use Rattle.std.specs.Prelude.{◌<◌, IfOk, IfErr};
+ghost use Rattle.av_base.specs.Shapes.{planes_of};
+ghost use Rattle.av_frame.specs.Limits.{IsPictureShape};
+ghost use Rattle.filt_video.specs.Shuffleplanes.{HasOrderFault, IsOrderRefused, IsFilled, IsOrder};
 
-use crate::framewise::Framewise;
-use crate::painted::{Painted, PictureMap};
-use crate::plain::{keep_within_limits, only};
+use crate::paint_frame::paint_frame;
 use crate::source::{read_part, read_sample};
 use av_base::{Format, List, NoMemory, Shape};
 use av_frame::{
-    ConfigError, Edit, Filter, Frame, Kernel, OptionError, Options, paint, read_options,
-    read_whole_within,
+    ConfigError, Frame, FrameRule, Framewise, Kernel, NamedRule, OptionError, Options, Pools,
+    Returned, check_shape, read_options, read_whole_within,
 };
 use av_text::Arg;
 use std::alloc::Global;
 
+/// The filter `shuffleplanes`.
+///
+/// A shape is rejected for its first plane that can't be filled: `BadGeometry` with the number of the plane that it takes and the
+/// number of planes, if that is no plane; `SizeMismatch` with its number and the other, if the two planes differ in size.
+/// Then `TooLarge`.
+pub type Shuffleplanes = Framewise<PlaneOrder>;
+
 /// The options `map0` to `map3`, which are the settings too: for each plane of the output the number of the input's
-/// plane that stands there. By default each plane stays in its place.
-#[derive(Clone, Copy, Debug, PartialEq, Eq)]
+/// plane with the number that is there. By default each plane stays in its place.
+#[derive(Clone, Copy, Debug, PartialEq, Eq, Drop)]
 pub struct PlaneOrder {
     /// Numbers from 0 to 3. Those past the format's planes count for nothing.
     pub maps: [u32; 4],
 }
 
 impl Options for PlaneOrder {
-    ghost use Rattle.av_frame.specs.WordLaws.{word_below};
-    ghost use Rattle.std.proofs.Common.{arith};
+    ghost use Rattle.filt_video.specs.Shuffleplanes.{order_rules};
+    ghost use Rattle.filt_video.specs.OrderLaws.{order_numbers};
 
-    ghost COUNT = { 4 };
+    ghost rules = { order_rules };
 
-    ghost names = { order_names };
-
-    ghost takes = { order_takes };
-
-    ghost has = { λ order. order_has order.maps };
-
-    const COUNT: u32 = 4;
+    fn count() -> u32 {
+        4
+    }
 
     fn numbered(name: &str) -> Option<u32> {
         match name {
@@ -55,6 +49,10 @@ impl Options for PlaneOrder {
         }
     }
 
+    fn defaults(_alloc: Global) -> Result<PlaneOrder, NoMemory> {
+        Ok(PlaneOrder { maps: [0, 1, 2, 3] })
+    }
+
     fn set(&mut self, _alloc: Global, option: u32, value: &str) -> Result<bool, NoMemory> {
         let Some(number) = read_whole_within(value, 0, 3) else {
             return Ok(false);
@@ -63,13 +61,16 @@ impl Options for PlaneOrder {
         Ok(true)
     }
 
-    ghost numbers = { word_below 4 order_names (Prim.omega arith, (Prim.omega arith, (Prim.omega arith, (Prim.omega arith, tt)))) };
+    fn complete(self, _arguments: u32) -> Result<PlaneOrder, OptionError> {
+        Ok(self)
+    }
+
+    ghost numbers = { order_numbers };
 }
 
-/// Checks what stands for one plane.
+/// Checks what one plane takes.
 fn check_plane(shape: Shape, order: PlaneOrder, plane: u32) -> Result<(), ConfigError>
-    requires lawful { IsLawful shape }
-    requires video { IsVideo shape.format }
+    requires picture { IsPictureShape shape }
     requires plane { plane < planes_of shape }
     ensures sound { IfOk result (λ _. IsFilled shape order.maps plane) }
     ensures refused { IfErr result (HasOrderFault shape order.maps plane) }
@@ -91,10 +92,9 @@ fn check_plane(shape: Shape, order: PlaneOrder, plane: u32) -> Result<(), Config
     Ok(())
 }
 
-/// Checks what stands for each plane.
+/// Checks what each plane takes.
 fn check_planes(shape: Shape, order: PlaneOrder) -> Result<(), ConfigError>
-    requires lawful { IsLawful shape }
-    requires video { IsVideo shape.format }
+    requires { IsPictureShape shape }
     ensures sound { IfOk result (λ _. IsOrder shape order.maps) }
     ensures refused { IfErr result (IsOrderRefused shape order.maps) }
 {
@@ -104,103 +104,75 @@ fn check_planes(shape: Shape, order: PlaneOrder) -> Result<(), ConfigError>
     Ok(())
 }
 
-/// Each sample is that in its place in the plane which stands for its own.
-#[derive(Clone, Copy, Drop)]
-pub struct ShuffleMap {
-    order: PlaneOrder,
-}
-
-impl Kernel for ShuffleMap {
+/// Each sample is that in its place in the plane which its own takes.
+impl Kernel for PlaneOrder {
     ghost use Rattle.std.specs.Prelude.{slice_index};
     ghost use Rattle.av_frame.specs.Sources.{source_at};
-    ghost use Rattle.filt_video.specs.Maps.{HasPlace};
+    ghost use Rattle.filt_video.specs.Places.{HasPlace};
     ghost use Rattle.filt_video.specs.Shuffleplanes.{shuffled};
 
-    ghost fits = { λ k sources p r c. (p < 4) × HasPlace sources (slice_index k.order.maps p) r c };
+    ghost fits = { λ k sources p r c. (p < 4) × HasPlace sources (slice_index k.maps p) r c };
 
-    ghost value = { λ k sources. shuffled k.order.maps (source_at sources 0) };
+    ghost value = { λ k sources. shuffled k.maps (source_at sources 0) };
 
     fn at(&self, sources: &mut [Frame], plane: u32, row: u32, column: u32) -> i32 {
-        read_sample(sources, self.order.maps[plane as usize], row, column)
+        read_sample(sources, self.maps[plane as usize], row, column)
     }
 
     fn row(&self, sources: &mut [Frame], plane: u32, row: u32, out: &mut [u8]) {
         if out.is_empty() {
             return;
         }
-        read_part(sources, self.order.maps[plane as usize], row, 0, out);
+        read_part(sources, self.maps[plane as usize], row, 0, out);
     }
 }
 
-impl PictureMap for ShuffleMap {
-    ghost use Rattle.std.specs.Prelude.{◌≡◌};
-    ghost use Rattle.filt_video.specs.Shuffleplanes.{IsOrder, shuffled};
+impl FrameRule for PlaneOrder {
+    ghost use Rattle.filt_video.specs.Shuffleplanes.{order_making};
+    ghost use Rattle.filt_video.specs.OrderLaws.{order_making_laws};
 
-    ghost maps = { λ k shape out_shape. (out_shape ≡ shape) × IsOrder shape k.order.maps };
+    type Options = PlaneOrder;
 
-    ghost value = { λ k. shuffled k.order.maps };
+    ghost making = { order_making };
 
-    fn paint(&self, edit: &mut Edit, sources: &mut [Frame], row: &mut [u8]) {
-        paint(edit, self, sources, row);
+    fn takes(_options: &PlaneOrder, _format: Format) -> bool {
+        true
     }
+
+    fn settle(options: &PlaneOrder, shape: Shape) -> Result<PlaneOrder, ConfigError> {
+        check_planes(shape, *options)?;
+        check_shape(shape)?;
+        Ok(*options)
+    }
+
+    fn shape(&self, shape: Shape) -> Shape {
+        shape
+    }
+
+    fn make(&self, alloc: Global, pools: &mut Pools, frame: Frame) -> Result<Frame, Returned> {
+        let shape = frame.shape();
+        paint_frame(alloc, pools, frame, shape, self)
+    }
+
+    ghost laws = { order_making_laws };
 }
 
-/// The filter `shuffleplanes`.
-pub type Shuffleplanes = Framewise<Painted<ShuffleMap>>;
+impl NamedRule for PlaneOrder {
+    ghost use Rattle.std.specs.Prelude.{codes};
+    ghost use Rattle.filt_video.specs.Shuffleplanes.{order_rules};
+    ghost use Rattle.filt_video.specs.OrderLaws.{order_reading_laws};
 
-impl Shuffleplanes {
-    /// Reads the filter's arguments.
-    ///
-    /// # Errors
-    /// The first argument's fault, as `read_options` says: `BadValue` where a value isn't a whole number from 0 to 3. Or
-    /// want of memory.
-    pub fn read(alloc: Global, args: &List<Arg>) -> Result<PlaneOrder, OptionError>
-        requires { length args.now < 2 ^ 32 }
-        ensures read { IfOk result (λ order. HasGiven 4 order_names (order_has order.maps) args.now) }
-        ensures taken { IfOk result (λ _. AreTaken 4 order_names order_takes args.now) }
-        ensures refused { IfErr result (λ e. (e ≡ option.NoMemory) ⊎ IsFirstFault 4 order_names order_takes args.now e) }
-    {
-        let order = PlaneOrder { maps: [0, 1, 2, 3] };
-        read_options(alloc, args, order)
+    ghost name = { codes "shuffleplanes" };
+
+    ghost options = { order_rules };
+
+    fn is_named(word: &str) -> bool {
+        word == "shuffleplanes"
     }
 
-    /// The settings, and the output's shape, which is the input's.
-    ///
-    /// # Errors
-    /// For the first plane of the format of which it holds: `BadGeometry` with the number that stands for it and the
-    /// number of planes, where that is no plane; `SizeMismatch` with its number and the other, where the two planes
-    /// differ in size. Then `TooLarge`. Or want of memory.
-    pub fn configure(
-        alloc: Global,
-        options: &PlaneOrder,
-        ins: &List<Shape>,
-        _chosen: &List<Format>,
-    ) -> Result<(PlaneOrder, List<Shape>), ConfigError>
-        requires { (s : Shape) × IsOnly ins.now _chosen.now s }
-        ensures settings { IfOk result (λ r. r.0 ≡ options.now) }
-        ensures outs { IfOk result (λ r. r.1 ≡ ins.now) }
-        ensures sound { (s : Shape) → ins.now ≡ s ∷ [] → IfOk result (λ r. IsOrder s r.0.maps) }
-        ensures pictured { (s : Shape) → ins.now ≡ s ∷ [] → IfOk result (λ _. IsPictured s) }
-        ensures refused { (s : Shape) → ins.now ≡ s ∷ [] → IfErr result (λ e. (e ≡ config.NoMemory) ⊎ IsOrderFault s options.now.maps e) }
-    {
-        check_planes(only(ins), *options)?;
-        Ok((*options, keep_within_limits(alloc, ins)?))
+    fn read(alloc: Global, args: &List<Arg>) -> Result<PlaneOrder, OptionError> {
+        read_options(alloc, args)
     }
 
-    /// A new filter for frames of the input's shape, with settings that `configure` gives.
-    ///
-    /// # Errors
-    /// Want of memory.
-    pub fn new(
-        alloc: Global,
-        settings: PlaneOrder,
-        ins: &List<Shape>,
-    ) -> Result<Shuffleplanes, NoMemory>
-        requires { (s : Shape) × (ins.now ≡ s ∷ []) × IsPictured s × IsOrder s settings.maps }
-        ensures { (s : Shape) → ins.now ≡ s ∷ [] → IfOk result (λ f. IsNew (⟦<Shuffleplanes as Filter>⟧.pads f) (⟦<Shuffleplanes as Filter>⟧.rest f) (⟦<Shuffleplanes as Filter>⟧.accepts f)
-            (one_to 1) (each_rule (λ _. painted (shuffled settings.maps) s)) (λ _. s) (λ _. s)) }
-    {
-        let shape = only(ins);
-        Framewise::painting(alloc, ShuffleMap { order: settings }, shape, shape)
-    }
+    ghost one = { order_reading_laws };
 }

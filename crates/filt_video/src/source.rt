@@ -2,7 +2,8 @@
 ghost use Rattle.std.specs.Prelude.{◌≡◌, ◌+◌, ◌<◌, ◌≤◌, ℕ, pos, length, slice_index};
 ghost use Rattle.av_base.specs.Shapes.{planes_of, columns_of, rows_of};
 ghost use Rattle.av_frame.specs.Sources.{source_at};
-ghost use Rattle.filt_video.specs.Maps.{HasPlace, sample};
+ghost use Rattle.av_frame.specs.Pictures.{sample};
+ghost use Rattle.filt_video.specs.Places.{HasPlace};
 
 use av_frame::Frame;
 
@@ -40,4 +41,18 @@ pub(crate) fn read_part(sources: &mut [Frame], plane: u32, row: u32, column: u32
     let source = &mut sources[0];
     let _shape = source.shape();
     source.part(plane, row, column, out);
+}
+
+/// Copies samples of a column, from a row on, into all of `out`.
+pub(crate) fn read_column(sources: &mut [Frame], plane: u32, row: u32, column: u32, out: &mut [u8])
+    requires some { 0 < length sources.old }
+    requires plane { plane < planes_of (source_at sources.old 0).shape }
+    requires column { column < columns_of (source_at sources.old 0).shape plane }
+    requires high { row + length out.old ≤ rows_of (source_at sources.old 0).shape plane }
+    ensures out { (i : ℕ) → i < length out.old → slice_index out.new i ≡ sample (source_at sources.old 0) plane (row + i) column }
+    ensures same { sources.new ≡ sources.old }
+{
+    let source = &mut sources[0];
+    let _shape = source.shape();
+    source.column(plane, row, column, out);
 }

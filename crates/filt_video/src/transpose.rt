@@ -1,50 +1,241 @@
 //! The filter `transpose`: rows and columns are exchanged.
-ghost use Rattle.std.specs.Prelude.{◌≡◌, ◌<◌, ◌^◌, ◌⊎◌, [], ◌∷◌, length, IfOk, IfErr};
-ghost use Rattle.av_base.specs.declared.shapes.Shape.{Shape};
-ghost use Rattle.av_base.specs.Shapes.{IsLawful, IsVideo};
-ghost use Rattle.av_frame.specs.FilterLaws.{IsNew, one_to};
-ghost use Rattle.av_frame.specs.Rules.{each_rule};
-ghost use Rattle.av_frame.specs.Options.{HasGiven, AreTaken, IsFirstFault};
-ghost use Rattle.av_frame.specs.declared.refusals.OptionError.TheVariants as option;
-ghost use Rattle.av_frame.specs.declared.refusals.ConfigError.TheVariants as config;
-ghost use Rattle.filt_video.specs.Geometry.{IsOnly, IsTooLarge};
-ghost use Rattle.filt_video.specs.Maps.{IsPictured};
-ghost use Rattle.filt_video.specs.Transpose.{transpose_names, TransposeTakes, TransposeHas, IsTurnable, transpose_settings, transposed_shape, transposed};
-ghost use Rattle.filt_video.specs.TransposeRules.{IsRuleFor};
+ghost use Rattle.std.specs.Prelude.{◌≡◌, ◌<◌};
+ghost use Rattle.av_base.specs.declared.numbers.Ratio.{Ratio};
+ghost use Rattle.av_frame.specs.Words.{word_in};
+ghost use Rattle.av_frame.specs.Limits.{IsPictureShape};
+ghost use Rattle.filt_video.specs.Transpose.{turns, passthroughs, passes, turned_aspect, turned_shape, transposed_shape, source_row, source_column};
 
-use crate::framewise::Framewise;
-use crate::geometry::check_shape;
-use crate::painted::{Painted, Passed, PictureMap};
-use crate::plain::only;
-use crate::source::{read_sample, size_of};
-use crate::turns::{Passthrough, TransposeOptions, TransposeSettings, Turn, turned_shape};
-use av_base::{Format, List, NoMemory, Shape};
+use crate::paint_frame::paint_frame;
+use crate::source::{read_column, read_sample, size_of};
+use av_base::{Format, List, NoMemory, PixelFormat, Props, Ratio, Shape, VideoProps};
 use av_frame::{
-    ConfigError, Edit, Filter, Frame, Kernel, OptionError, PerFrame, Returned, paint, read_options,
+    ConfigError, Frame, FrameRule, Framewise, Kernel, NamedRule, OptionError, Options, Pools,
+    Returned, check_shape, picture_parts, picture_size, read_options,
 };
 use av_text::Arg;
 use std::alloc::Global;
-use std::thread::Threads;
 
-/// The sample in row r and column c is that of a column and a row which r and c name.
-#[derive(Clone, Copy, Drop)]
-pub struct TransposeMap {
-    turn: Turn,
+/// The filter `transpose`. It takes no format of 4:2:2, since turned pictures would be of another format.
+///
+/// The output has the input's shape with width and height exchanged, and with the aspect turned over if it is known; or the
+/// input's, if frames of its shape pass as they are. Its limits are checked.
+pub type Transpose = Framewise<TransposeSettings>;
+
+/// How rows and columns are exchanged.
+#[derive(Clone, Copy, Debug, PartialEq, Eq, Drop)]
+pub enum Turn {
+    /// Turned by a quarter against the clock, and then upside down.
+    CclockFlip,
+    /// Turned by a quarter with the clock.
+    Clock,
+    /// Turned by a quarter against the clock.
+    Cclock,
+    /// Turned by a quarter with the clock, and then upside down.
+    ClockFlip,
 }
 
-impl Kernel for TransposeMap {
+/// Which pictures pass as they are.
+#[derive(Clone, Copy, Debug, PartialEq, Eq, Drop)]
+pub enum Passthrough {
+    /// None.
+    Never,
+    /// Those at least as high as wide.
+    Portrait,
+    /// Those at least as wide as high.
+    Landscape,
+}
+
+/// The options `dir` and `passthrough`. `BadValue` means that a value isn't one of its option's words.
+#[derive(Clone, Copy, Debug, PartialEq, Eq, Drop)]
+pub struct TransposeOptions {
+    /// By default `CclockFlip`.
+    pub dir: Turn,
+    /// By default `Never`.
+    pub passthrough: Passthrough,
+}
+
+/// What the filter does with frames of its input's shape.
+#[derive(Clone, Copy, Debug, PartialEq, Eq, Drop)]
+pub struct TransposeSettings {
+    /// How they are turned.
+    pub dir: Turn,
+    /// Whether they pass as they are.
+    pub passes: bool,
+}
+
+impl Turn {
+    /// The way of turning that a word means.
+    fn named(word: &str) -> Option<Turn>
+        ensures { result ≡ word_in turns word.now }
+    {
+        match word {
+            "0" | "cclock_flip" => Some(Turn::CclockFlip),
+            "1" | "clock" => Some(Turn::Clock),
+            "2" | "cclock" => Some(Turn::Cclock),
+            "3" | "clock_flip" => Some(Turn::ClockFlip),
+            _ => None,
+        }
+    }
+
+    /// The row of the input that a column of the output comes from.
+    fn source_row(self, rows: u32, column: u32) -> u32
+        requires { column < rows }
+        ensures row { result ≡ source_row self rows column }
+        ensures less { result < rows }
+    {
+        match self {
+            Turn::CclockFlip | Turn::Cclock => column,
+            Turn::Clock | Turn::ClockFlip => rows - 1 - column,
+        }
+    }
+
+    /// The column of the input that a row of the output comes from.
+    fn source_column(self, columns: u32, row: u32) -> u32
+        requires { row < columns }
+        ensures column { result ≡ source_column self columns row }
+        ensures less { result < columns }
+    {
+        match self {
+            Turn::CclockFlip | Turn::Clock => row,
+            Turn::Cclock | Turn::ClockFlip => columns - 1 - row,
+        }
+    }
+}
+
+impl Passthrough {
+    /// Which pictures pass, as a word says.
+    fn named(word: &str) -> Option<Passthrough>
+        ensures { result ≡ word_in passthroughs word.now }
+    {
+        match word {
+            "none" => Some(Passthrough::Never),
+            "portrait" => Some(Passthrough::Portrait),
+            "landscape" => Some(Passthrough::Landscape),
+            _ => None,
+        }
+    }
+
+    /// Whether pictures of a shape pass.
+    fn passes(self, shape: Shape) -> bool
+        requires { IsPictureShape shape }
+        ensures { result ≡ passes self shape }
+    {
+        let (width, height) = picture_size(shape);
+        match self {
+            Passthrough::Never => false,
+            Passthrough::Portrait => width <= height,
+            Passthrough::Landscape => height <= width,
+        }
+    }
+}
+
+impl Options for TransposeOptions {
+    ghost use Rattle.filt_video.specs.Transpose.{transpose_rules};
+    ghost use Rattle.filt_video.specs.TransposeLaws.{transpose_numbers};
+
+    ghost rules = { transpose_rules };
+
+    fn count() -> u32 {
+        2
+    }
+
+    fn numbered(name: &str) -> Option<u32> {
+        match name {
+            "dir" => Some(0),
+            "passthrough" => Some(1),
+            _ => None,
+        }
+    }
+
+    fn defaults(_alloc: Global) -> Result<TransposeOptions, NoMemory> {
+        Ok(TransposeOptions {
+            dir: Turn::CclockFlip,
+            passthrough: Passthrough::Never,
+        })
+    }
+
+    fn set(&mut self, _alloc: Global, option: u32, value: &str) -> Result<bool, NoMemory> {
+        if option == 0 {
+            let Some(dir) = Turn::named(value) else {
+                return Ok(false);
+            };
+            self.dir = dir;
+        } else {
+            let Some(passthrough) = Passthrough::named(value) else {
+                return Ok(false);
+            };
+            self.passthrough = passthrough;
+        }
+        Ok(true)
+    }
+
+    fn complete(self, _arguments: u32) -> Result<TransposeOptions, OptionError> {
+        Ok(self)
+    }
+
+    ghost numbers = { transpose_numbers };
+}
+
+/// The aspect of turned pictures.
+fn turned_aspect(aspect: Ratio) -> Ratio
+    ensures { result ≡ turned_aspect aspect }
+{
+    if aspect.num == 0 {
+        return aspect;
+    }
+    Ratio {
+        num: aspect.den,
+        den: aspect.num,
+    }
+}
+
+/// The shape of turned pictures.
+fn turned_shape(shape: Shape) -> Shape
+    requires { IsPictureShape shape }
+    ensures { result ≡ turned_shape shape }
+{
+    let (_format, props) = picture_parts(shape);
+    let props = VideoProps {
+        width: props.height,
+        height: props.width,
+        aspect: turned_aspect(props.aspect),
+        ..props
+    };
+    Shape {
+        props: Props::Video(props),
+        ..shape
+    }
+}
+
+impl TransposeSettings {
+    /// The output's shape.
+    fn out_shape(self, shape: Shape) -> Shape
+        requires { IsPictureShape shape }
+        ensures shape { result ≡ transposed_shape self shape }
+        ensures picture { IsPictureShape result }
+    {
+        if self.passes {
+            shape
+        } else {
+            turned_shape(shape)
+        }
+    }
+}
+
+/// The sample in row r and column c is that of a column and a row which r and c name.
+impl Kernel for Turn {
     ghost use Rattle.av_frame.specs.Sources.{source_at};
-    ghost use Rattle.filt_video.specs.Maps.{HasPlace};
+    ghost use Rattle.filt_video.specs.Places.{HasPlace};
     ghost use Rattle.filt_video.specs.Transpose.{turned};
 
-    ghost fits = { λ k sources p r c. HasPlace sources p c r };
+    ghost fits = { λ turn sources p r c. HasPlace sources p c r };
 
-    ghost value = { λ k sources. turned k.turn (source_at sources 0) };
+    ghost value = { λ turn sources. turned turn (source_at sources 0) };
 
     fn at(&self, sources: &mut [Frame], plane: u32, row: u32, column: u32) -> i32 {
         let (columns, rows) = size_of(sources, plane);
-        let from_row = self.turn.row_behind(rows, column);
-        let from_column = self.turn.column_behind(columns, row);
+        let from_row = self.source_row(rows, column);
+        let from_column = self.source_column(columns, row);
         read_sample(sources, plane, from_row, from_column)
     }
 
@@ -53,152 +244,72 @@ impl Kernel for TransposeMap {
             return;
         }
         let (columns, rows) = size_of(sources, plane);
-        let from_column = self.turn.column_behind(columns, row);
-        for column in 0..out.len() {
-            let from_row = self.turn.row_behind(rows, column as u32);
-            out[column] = read_sample(sources, plane, from_row, from_column) as u8;
-        }
-    }
-}
-
-impl PictureMap for TransposeMap {
-    ghost use Rattle.std.specs.Prelude.{◌≡◌};
-    ghost use Rattle.filt_video.specs.Transpose.{IsTurnable, turned_shape, turned};
-
-    ghost maps = { λ k shape out_shape. (out_shape ≡ turned_shape shape) × IsTurnable shape.format };
-
-    ghost value = { λ k. turned k.turn };
-
-    fn paint(&self, edit: &mut Edit, sources: &mut [Frame], row: &mut [u8]) {
-        paint(edit, self, sources, row);
-    }
-}
-
-/// What is made of each frame.
-#[derive(Drop)]
-pub enum TransposeRule {
-    /// The frame itself.
-    Passes(Passed),
-    /// The picture turned.
-    Turns(Painted<TransposeMap>),
-}
-
-impl PerFrame for TransposeRule {
-    ghost use Rattle.std.proofs.Common.{arith};
-    ghost use Rattle.filt_video.specs.TransposeRules.{rule_shape, rule_out_shape, rule_made, rule_keeps, rule_shaped};
-
-    ghost outputs = { λ t. 1 };
-
-    ghost shape = { rule_shape };
-
-    ghost out_shape = { λ t o. rule_out_shape t };
-
-    ghost made = { λ t o. rule_made t };
-
-    ghost some = { λ t. Prim.omega arith };
-
-    ghost keeps = { λ t o x h. rule_keeps t x };
-
-    ghost shaped = { λ t o x h e. rule_shaped t x e };
-
-    fn make<R: Threads + Sync>(
-        &mut self,
-        rt: &R,
-        alloc: Global,
-        slices: u32,
-        frame: Frame,
-    ) -> Result<List<Frame>, Returned> {
+        let from_column = self.source_column(columns, row);
         match self {
-            TransposeRule::Passes(rule) => rule.make(rt, alloc, slices, frame),
-            TransposeRule::Turns(rule) => rule.make(rt, alloc, slices, frame),
+            Turn::CclockFlip | Turn::Cclock => read_column(sources, plane, 0, from_column, out),
+            Turn::Clock | Turn::ClockFlip => {
+                read_column(sources, plane, rows - out.len() as u32, from_column, out);
+                out.reverse();
+            }
         }
     }
 }
 
-/// The rule for frames of a shape.
-fn rule_for(
-    alloc: Global,
-    settings: TransposeSettings,
-    shape: Shape,
-) -> Result<TransposeRule, NoMemory>
-    requires lawful { IsLawful shape }
-    requires video { IsVideo shape.format }
-    requires pictured { IsPictured (transposed_shape settings shape) }
-    requires turnable { IsTurnable shape.format }
-    ensures { IfOk result (IsRuleFor settings shape) }
-{
-    if settings.passes {
-        return Ok(TransposeRule::Passes(Passed::new(shape)));
-    }
-    let map = TransposeMap { turn: settings.dir };
-    let rule = Painted::new(alloc, map, shape, turned_shape(shape))?;
-    Ok(TransposeRule::Turns(rule))
-}
+impl FrameRule for TransposeSettings {
+    ghost use Rattle.filt_video.specs.Transpose.{transpose_making};
+    ghost use Rattle.filt_video.specs.TransposeLaws.{transpose_making_laws};
 
-/// The filter `transpose`.
-pub type Transpose = Framewise<TransposeRule>;
+    type Options = TransposeOptions;
 
-impl Transpose {
-    /// Reads the filter's arguments.
-    ///
-    /// # Errors
-    /// The first argument's fault, as `read_options` says: `BadValue` where a value isn't one of its option's words. Or want
-    /// of memory.
-    pub fn read(alloc: Global, args: &List<Arg>) -> Result<TransposeOptions, OptionError>
-        requires { length args.now < 2 ^ 32 }
-        ensures read { IfOk result (λ options. HasGiven 2 transpose_names (TransposeHas options) args.now) }
-        ensures taken { IfOk result (λ _. AreTaken 2 transpose_names TransposeTakes args.now) }
-        ensures refused { IfErr result (λ e. (e ≡ option.NoMemory) ⊎ IsFirstFault 2 transpose_names TransposeTakes args.now e) }
-    {
-        let options = TransposeOptions {
-            dir: Turn::CclockFlip,
-            passthrough: Passthrough::Never,
-        };
-        read_options(alloc, args, options)
+    ghost making = { transpose_making };
+
+    fn takes(_options: &TransposeOptions, format: Format) -> bool {
+        match format {
+            Format::Video(PixelFormat::Yuv422p | PixelFormat::Yuva422p) => false,
+            _ => true,
+        }
     }
 
-    /// The settings, and the output's shape: the input's with width and height exchanged, and with the aspect turned over
-    /// where it is known; or the input's, where frames of its shape pass as they are.
-    ///
-    /// # Errors
-    /// `TooLarge`, or want of memory.
-    pub fn configure(
-        alloc: Global,
-        options: &TransposeOptions,
-        ins: &List<Shape>,
-        _chosen: &List<Format>,
-    ) -> Result<(TransposeSettings, List<Shape>), ConfigError>
-        requires { (s : Shape) × IsOnly ins.now _chosen.now s × IsTurnable s.format }
-        ensures settings { (s : Shape) → ins.now ≡ s ∷ [] → IfOk result (λ r. r.0 ≡ transpose_settings options.now s) }
-        ensures outs { (s : Shape) → ins.now ≡ s ∷ [] → IfOk result (λ r. r.1 ≡ transposed_shape r.0 s ∷ []) }
-        ensures pictured { (s : Shape) → ins.now ≡ s ∷ [] → IfOk result (λ r. IsPictured (transposed_shape r.0 s)) }
-        ensures refused { (s : Shape) → ins.now ≡ s ∷ [] → IfErr result (λ e. (e ≡ config.NoMemory) ⊎ IsTooLarge (transposed_shape (transpose_settings options.now s) s) e) }
-    {
-        let shape = only(ins);
+    fn settle(options: &TransposeOptions, shape: Shape) -> Result<TransposeSettings, ConfigError> {
         let settings = TransposeSettings {
             dir: options.dir,
             passes: options.passthrough.passes(shape),
         };
-        let out_shape = settings.shape(shape);
-        check_shape(out_shape)?;
-        let outs = vec![in alloc; out_shape]?;
-        Ok((settings, List::new(outs)))
+        check_shape(settings.out_shape(shape))?;
+        Ok(settings)
     }
 
-    /// A new filter for frames of the input's shape.
-    ///
-    /// # Errors
-    /// Want of memory.
-    pub fn new(
-        alloc: Global,
-        settings: TransposeSettings,
-        ins: &List<Shape>,
-    ) -> Result<Transpose, NoMemory>
-        requires { (s : Shape) × (ins.now ≡ s ∷ []) × IsLawful s × IsVideo s.format × IsPictured (transposed_shape settings s) × IsTurnable s.format }
-        ensures { (s : Shape) → ins.now ≡ s ∷ [] → IfOk result (λ f. IsNew (⟦<Transpose as Filter>⟧.pads f) (⟦<Transpose as Filter>⟧.rest f) (⟦<Transpose as Filter>⟧.accepts f)
-            (one_to 1) (each_rule (λ _. transposed settings s)) (λ _. s) (λ _. transposed_shape settings s)) }
-    {
-        let rule = rule_for(alloc, settings, only(ins))?;
-        Framewise::by(alloc, rule)
+    fn shape(&self, shape: Shape) -> Shape {
+        self.out_shape(shape)
     }
+
+    fn make(&self, alloc: Global, pools: &mut Pools, frame: Frame) -> Result<Frame, Returned> {
+        if self.passes {
+            return Ok(frame);
+        }
+        let out_shape = turned_shape(frame.shape());
+        paint_frame(alloc, pools, frame, out_shape, &self.dir)
+    }
+
+    ghost laws = { transpose_making_laws };
+}
+
+impl NamedRule for TransposeSettings {
+    ghost use Rattle.std.specs.Prelude.{codes};
+    ghost use Rattle.filt_video.specs.Transpose.{transpose_rules};
+    ghost use Rattle.filt_video.specs.TransposeLaws.{transpose_reading_laws};
+
+    ghost name = { codes "transpose" };
+
+    ghost options = { transpose_rules };
+
+    fn is_named(word: &str) -> bool {
+        word == "transpose"
+    }
+
+    fn read(alloc: Global, args: &List<Arg>) -> Result<TransposeOptions, OptionError> {
+        read_options(alloc, args)
+    }
+
+    ghost one = { transpose_reading_laws };
 }

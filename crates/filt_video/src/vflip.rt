@@ -1,110 +1,38 @@
 //! The filter `vflip`: pictures are turned upside down.
-ghost use Rattle.std.specs.Prelude.{◌≡◌, ◌<◌, ◌^◌, ◌⊎◌, [], ◌∷◌, length, IfOk, IfErr};
-ghost use Rattle.av_base.specs.declared.shapes.Shape.{Shape};
-ghost use Rattle.av_frame.specs.FilterLaws.{IsNew, one_to};
-ghost use Rattle.av_frame.specs.Rules.{each_rule};
-ghost use Rattle.av_frame.specs.Options.{AreTaken, IsFirstFault};
-ghost use Rattle.av_frame.specs.declared.refusals.OptionError.TheVariants as option;
-ghost use Rattle.av_frame.specs.declared.refusals.ConfigError.TheVariants as config;
-ghost use Rattle.filt_video.specs.Geometry.{IsOnly, IsTooLarge};
-ghost use Rattle.filt_video.specs.Maps.{IsPictured, painted};
-ghost use Rattle.filt_video.specs.Vflip.{vflipped};
-
-use crate::framewise::Framewise;
-use crate::painted::{Painted, PictureMap};
-use crate::plain::{NoSettings, keep_within_limits, only};
-use crate::source::{read_part, read_sample, size_of};
-use av_base::{Format, List, NoMemory, Shape};
-use av_frame::{
-    ConfigError, Edit, Filter, Frame, Kernel, NoOptions, OptionError, paint, read_options,
-};
-use av_text::Arg;
+use av_frame::{Frame, Framewise, Plain, PlainRule, Pools, Returned};
 use std::alloc::Global;
 
 /// The filter `vflip`. It has no options.
-pub type Vflip = Framewise<Painted<VflipMap>>;
+pub type Vflip = Framewise<Plain<VflipRule>>;
 
 /// The sample in row r is that of row h - 1 - r in the same plane and column.
 #[derive(Clone, Copy, Drop)]
-pub struct VflipMap;
+pub struct VflipRule;
 
-impl Kernel for VflipMap {
-    ghost use Rattle.av_frame.specs.Sources.{source_at};
-    ghost use Rattle.filt_video.specs.Maps.{HasPlace};
+impl PlainRule for VflipRule {
+    ghost use Rattle.std.specs.Prelude.{codes, refl};
+    ghost use Rattle.av_frame.specs.Pictures.{repainted, repainted_keeps};
     ghost use Rattle.filt_video.specs.Vflip.{vflipped};
 
-    ghost fits = { λ k. HasPlace };
+    ghost name = { codes "vflip" };
 
-    ghost value = { λ k sources. vflipped (source_at sources 0) };
+    ghost only = { record {} };
 
-    fn at(&self, sources: &mut [Frame], plane: u32, row: u32, column: u32) -> i32 {
-        let (_columns, rows) = size_of(sources, plane);
-        read_sample(sources, plane, rows - 1 - row, column)
+    ghost made = { repainted vflipped };
+
+    fn is_named(word: &str) -> bool {
+        word == "vflip"
     }
 
-    fn row(&self, sources: &mut [Frame], plane: u32, row: u32, out: &mut [u8]) {
-        if out.is_empty() {
-            return;
-        }
-        let (_columns, rows) = size_of(sources, plane);
-        read_part(sources, plane, rows - 1 - row, 0, out);
-    }
-}
-
-impl PictureMap for VflipMap {
-    ghost use Rattle.std.specs.Prelude.{◌≡◌};
-    ghost use Rattle.filt_video.specs.Vflip.{vflipped};
-
-    ghost maps = { λ k shape out_shape. out_shape ≡ shape };
-
-    ghost value = { λ k. vflipped };
-
-    fn paint(&self, edit: &mut Edit, sources: &mut [Frame], row: &mut [u8]) {
-        paint(edit, self, sources, row);
-    }
-}
-
-impl Vflip {
-    /// Reads the filter's arguments.
-    ///
-    /// # Errors
-    /// The first argument is refused, as the filter has no options; or want of memory.
-    pub fn read(alloc: Global, args: &List<Arg>) -> Result<NoOptions, OptionError>
-        requires { length args.now < 2 ^ 32 }
-        ensures taken { IfOk result (λ _. AreTaken 0 [] (λ _ _. ⊥) args.now) }
-        ensures refused { IfErr result (λ e. (e ≡ option.NoMemory) ⊎ IsFirstFault 0 [] (λ _ _. ⊥) args.now e) }
-    {
-        read_options(alloc, args, NoOptions)
+    fn new() -> VflipRule {
+        VflipRule
     }
 
-    /// The settings, and the output's shape, which is the input's.
-    ///
-    /// # Errors
-    /// `TooLarge`, or want of memory.
-    pub fn configure(
-        alloc: Global,
-        _options: &NoOptions,
-        ins: &List<Shape>,
-        _chosen: &List<Format>,
-    ) -> Result<(NoSettings, List<Shape>), ConfigError>
-        requires { (s : Shape) × IsOnly ins.now _chosen.now s }
-        ensures outs { IfOk result (λ r. r.1 ≡ ins.now) }
-        ensures pictured { (s : Shape) → ins.now ≡ s ∷ [] → IfOk result (λ _. IsPictured s) }
-        ensures refused { (s : Shape) → ins.now ≡ s ∷ [] → IfErr result (λ e. (e ≡ config.NoMemory) ⊎ IsTooLarge s e) }
-    {
-        Ok((NoSettings, keep_within_limits(alloc, ins)?))
+    fn remake(_alloc: Global, _pools: &mut Pools, frame: Frame) -> Result<Frame, Returned> {
+        Ok(frame.upside_down())
     }
 
-    /// A new filter for frames of the input's shape.
-    ///
-    /// # Errors
-    /// Want of memory.
-    pub fn new(alloc: Global, _settings: NoSettings, ins: &List<Shape>) -> Result<Vflip, NoMemory>
-        requires { (s : Shape) × (ins.now ≡ s ∷ []) × IsPictured s }
-        ensures { (s : Shape) → ins.now ≡ s ∷ [] → IfOk result (λ f. IsNew (⟦<Vflip as Filter>⟧.pads f) (⟦<Vflip as Filter>⟧.rest f) (⟦<Vflip as Filter>⟧.accepts f)
-            (one_to 1) (each_rule (λ _. painted vflipped s)) (λ _. s) (λ _. s)) }
-    {
-        let shape = only(ins);
-        Framewise::painting(alloc, VflipMap, shape, shape)
-    }
+    ghost keeps = { repainted_keeps vflipped };
+
+    ghost shaped = { λ x. refl };
 }

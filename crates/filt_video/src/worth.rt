@@ -14,7 +14,7 @@ use av_expr::{Expr, ExprError, Fraction, Values, VarSet, parse};
 use av_frame::ConfigError;
 use std::alloc::Global;
 
-/// Replaces an option's expression by what a text says. False where the text says none, or has 2^32 bytes or more.
+/// Replaces an option's expression by that of a text. False if the text is none, or has 2^32 bytes or more.
 pub(crate) fn set_expr(
     alloc: Global,
     expr: &mut Expr,
@@ -37,7 +37,7 @@ pub(crate) fn set_expr(
     }
 }
 
-/// The expression that a text says, which says one.
+/// The expression of a text that is one.
 pub(crate) fn default_expr(alloc: Global, text: &str, variables: VarSet) -> Result<Expr, NoMemory>
     requires short { length text.now < 2 ^ 32 }
     requires says { (tree : Tree) × IsExpr variables text.now tree }

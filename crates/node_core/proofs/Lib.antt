@@ -1,5 +1,3 @@
 mod KindLemmas
-mod StartLemmas
-pub mod KindLaws
-pub mod ShapeLaws
-pub mod InstanceLaws
+pub mod LawLemmas
+pub mod ReadyLemmas

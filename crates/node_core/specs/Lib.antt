@@ -1,4 +1,5 @@
+pub mod Filters
+pub mod FilterLaws
 pub mod Kinds
 pub mod Shaping
 pub mod Laws
-pub mod Instances

@@ -1,77 +1,25 @@
 //! The filter that a call names, with its options.
-ghost use Rattle.std.specs.Prelude.{◌≡◌, ◌<◌, ◌^◌, ◌⊎◌, length, IfOk, IfErr};
+ghost use Rattle.std.specs.Prelude.{◌≡◌, ◌↔◌, ◌<◌, ◌^◌, ◌⊎◌, [], ◌∷◌, length, IsTrue, IfOk, IfErr};
+ghost use Rattle.av_base.specs.declared.shapes.Shape.{Shape};
+ghost use Rattle.av_frame.specs.Meanings.{IsOnly};
 ghost use Rattle.av_frame.specs.declared.refusals.OptionError.TheVariants as option;
-ghost use Rattle.node_core.specs.Kinds.{IsKind, IsKindFault, IsKindOf, IsFaultOf};
-ghost use Rattle.node_core.specs.Shaping.{video_pads};
+ghost use Rattle.av_frame.specs.declared.refusals.ConfigError.TheVariants as config;
+ghost use Rattle.node_core.specs.Kinds.{IsKind, IsKindFault};
+ghost use Rattle.node_core.specs.Shaping.{video_pads, Takes, IsReady, IsConfigFault};
 
-use crate::name::{Name, name_in};
-use av_base::{List, Media, NoMemory};
-use av_frame::OptionError;
-use av_text::Arg;
-use filt_video::{
-    Crop, CropOptions, FormatFilter, FormatOptions, Hflip, Lutyuv, LutyuvOptions, Negate, Null,
-    Pad, PadOptions, PlaneOrder, Shuffleplanes, Transpose, TransposeOptions, Vflip,
-};
+use crate::filters::FrameFilters;
+use crate::name::later_in;
+use crate::ready::Ready;
+use av_base::{Format, List, Media, NoMemory, Shape};
+use av_frame::{ConfigError, FrameRule, Framewise, OptionError, RuleSet};
 use graph_plan::Pads;
 use graph_text::FilterCall;
 use std::alloc::Global;
 
 /// A filter, with its options.
 #[derive(Drop)]
-pub enum Kind {
-    /// `crop`
-    Crop(CropOptions),
-    /// `format`
-    Format(FormatOptions),
-    /// `hflip`
-    Hflip,
-    /// `lutyuv`
-    Lutyuv(LutyuvOptions),
-    /// `negate`
-    Negate,
-    /// `null`
-    Null,
-    /// `pad`
-    Pad(PadOptions),
-    /// `shuffleplanes`
-    Shuffleplanes(PlaneOrder),
-    /// `transpose`
-    Transpose(TransposeOptions),
-    /// `vflip`
-    Vflip,
-}
-
-/// The filter of a name, with the options that arguments give it.
-fn read_kind(alloc: Global, name: Name, args: &List<Arg>) -> Result<Kind, OptionError>
-    requires { length args.now < 2 ^ 32 }
-    ensures kind { IfOk result (IsKindOf name args.now) }
-    ensures refused { IfErr result (λ e. (e ≡ option.NoMemory) ⊎ IsFaultOf name args.now e) }
-{
-    match name {
-        Name::Crop => Ok(Kind::Crop(Crop::read(alloc, args)?)),
-        Name::Format => Ok(Kind::Format(FormatFilter::read(alloc, args)?)),
-        Name::Hflip => {
-            Hflip::read(alloc, args)?;
-            Ok(Kind::Hflip)
-        }
-        Name::Lutyuv => Ok(Kind::Lutyuv(Lutyuv::read(alloc, args)?)),
-        Name::Negate => {
-            Negate::read(alloc, args)?;
-            Ok(Kind::Negate)
-        }
-        Name::Null => {
-            Null::read(alloc, args)?;
-            Ok(Kind::Null)
-        }
-        Name::Pad => Ok(Kind::Pad(Pad::read(alloc, args)?)),
-        Name::Shuffleplanes => Ok(Kind::Shuffleplanes(Shuffleplanes::read(alloc, args)?)),
-        Name::Transpose => Ok(Kind::Transpose(Transpose::read(alloc, args)?)),
-        Name::Vflip => {
-            Vflip::read(alloc, args)?;
-            Ok(Kind::Vflip)
-        }
-        Name::Later => Err(OptionError::NotYet),
-    }
+pub struct Kind {
+    pub(crate) options: <FrameFilters as FrameRule>::Options,
 }
 
 /// One pad for video.
@@ -85,24 +33,29 @@ impl Kind {
     /// The filter that a call names, with the options that its arguments give it. There are fewer than 2^32 arguments.
     ///
     /// # Errors
-    /// `UnknownFilter` where there is none of this name, and `NotYet` where it is still to be built; else what stands
-    /// first against its arguments: `UnknownOption`, `TooManyValues` or `BadValue` of the first argument that has one, and
-    /// then `MissingOption`. Or want of memory.
+    /// `UnknownFilter` if there is none of this name, and `NotYet` if it is still to be built; else why its arguments are
+    /// rejected: `UnknownOption`, `TooManyValues` or `BadValue` of the first argument that has a fault, then `BadValue`
+    /// with the number of arguments if options contradict each other, then `MissingOption`. Or out of memory.
     pub fn read(alloc: Global, call: &FilterCall) -> Result<Kind, OptionError>
         requires { length call.now.args < 2 ^ 32 }
         ensures kind { IfOk result (IsKind call.now) }
         ensures refused { IfErr result (λ e. (e ≡ option.NoMemory) ⊎ IsKindFault call.now e) }
     {
-        let Some(name) = name_in(call.name.as_str()) else {
-            return Err(OptionError::UnknownFilter);
-        };
-        read_kind(alloc, name, &call.args)
+        let name = call.name.as_str();
+        if FrameFilters::is_name(name) {
+            let options = FrameFilters::read_named(alloc, name, &call.args)?;
+            return Ok(Kind { options });
+        }
+        match later_in(name) {
+            Some(_) => Err(OptionError::NotYet),
+            None => Err(OptionError::UnknownFilter),
+        }
     }
 
     /// What the filter's pads take and give: all filters that there are take one video and give one.
     ///
     /// # Errors
-    /// Want of memory.
+    /// Out of memory.
     pub fn pads(&self, alloc: Global) -> Result<Pads, NoMemory>
         ensures ins { IfOk result (λ pads. pads.ins ≡ video_pads) }
         ensures outs { IfOk result (λ pads. pads.outs ≡ video_pads) }
@@ -110,5 +63,33 @@ impl Kind {
         let ins = one_video(alloc)?;
         let outs = one_video(alloc)?;
         Ok(Pads { ins, outs })
+    }
+
+    /// Whether the filter takes pictures of a format.
+    pub fn takes(&self, format: Format) -> bool
+        ensures { IsTrue result ↔ Takes self.now format }
+    {
+        FrameFilters::takes(&self.options, format)
+    }
+
+    /// Configures the filter for inputs of these shapes and outputs in these formats, one for each pad. All filters that
+    /// there are take one picture in a format that they allow, and give one in the same format.
+    ///
+    /// # Errors
+    /// `NoValue` of the first option whose expression has no value; then what the filter's own checks find, `BadGeometry`
+    /// or `SizeMismatch`; then `TooLarge` of its output. Or out of memory.
+    pub fn configure(
+        &self,
+        alloc: Global,
+        ins: &List<Shape>,
+        chosen: &List<Format>,
+    ) -> Result<Ready, ConfigError>
+        requires { (s : Shape) × IsOnly ins.now chosen.now s × Takes self.now s.format }
+        ensures ready { (s : Shape) → ins.now ≡ s ∷ [] → IfOk result (IsReady self.now s) }
+        ensures refused { (s : Shape) → ins.now ≡ s ∷ [] → IfErr result (λ e. (e ≡ config.NoMemory) ⊎ IsConfigFault self.now s e) }
+    {
+        let (settings, outs) = Framewise::configure(alloc, &self.options, ins, chosen)?;
+        let ins = List::new(Vec::from_slice(alloc, ins.as_slice())?);
+        Ok(Ready::new(settings, ins, outs))
     }
 }

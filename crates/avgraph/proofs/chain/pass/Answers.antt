@@ -1,5 +1,5 @@
 use Rattle.std.proofs.Common.{◌<◌, length, get_or, sym, arith}
-use Rattle.node_core.specs.Instances.{made_by}
+use Rattle.node_core.specs.Shaping.{made_by}
 use Rattle.avgraph.specs.Chains.{TakesFrom}
 use Rattle.avgraph.proofs.ChainLemmas.{next_of, all_passed}
 use Rattle.avgraph.proofs.chain.pass.Goals as goal

@@ -1,6 +1,6 @@
 use Rattle.std.proofs.Common.{ap, sym, subst}
 use Rattle.av_host.specs.Calls.{Opens}
-use Rattle.avgraph.specs.Reading.{Reading}
+use Rattle.y4m_io.specs.Reading.{Reading}
 use Rattle.avgraph.specs.declared.TheConstants.{LIMIT}
 use Rattle.avgraph.proofs.CommandLemmas.{opening_refused, heading_refused}
 use Rattle.avgraph.proofs.command.open.Goals as goal

@@ -1,11 +1,11 @@
 use Rattle.std.proofs.Common.{Err, sym, subst}
 use Rattle.av_host.specs.World.{Faults}
-use Rattle.avgraph.specs.Faults.{CountsStop}
-use Rattle.avgraph.specs.Reading.{Reading}
+use Rattle.avgraph.specs.Stops.{CountsStop}
+use Rattle.y4m_io.specs.Reading.{Reading}
 use Rattle.avgraph.specs.Chains.{ChainValue}
 use Rattle.avgraph.specs.declared.TheConstants.{LIMIT}
 use Rattle.avgraph.proofs.CommandLemmas.{open_refused, shape_refused, prepared}
-use Rattle.avgraph.proofs.HeaderLemmas.{header_readable}
+use Rattle.y4m_io.proofs.HeaderLemmas.{header_readable}
 use Rattle.avgraph.proofs.ReadyLemmas.{shape_counts}
 use Rattle.avgraph.proofs.command.prepare.Goals as goal
 
@@ -13,11 +13,8 @@ pub returns-in-Err-clause-prepares : goal.returns-in-Err-clause-prepares
 returns-in-Err-clause-prepares g c = λ calls zip.
     open_refused LIMIT calls (g.H.Host.world c.args.host.now) (g.H.Host.world c.open.new.host) c.args.name.now c.in-Err.stop c.in-Err.ensures.opens
 
-pub ready_chain-requires-clause-lawful : goal.ready_chain-requires-clause-lawful
-ready_chain-requires-clause-lawful g c = (header_readable c.in-Ok.ensures.opens.header).lawful
-
-pub ready_chain-requires-clause-video : goal.ready_chain-requires-clause-video
-ready_chain-requires-clause-video g c = (header_readable c.in-Ok.ensures.opens.header).video
+pub ready_chain-requires-clause-picture : goal.ready_chain-requires-clause-picture
+ready_chain-requires-clause-picture g c = let readable = header_readable c.in-Ok.ensures.opens.header in record { lawful = readable.lawful; video = readable.video }
 
 pub returns-in-Ok-ready_chain-clause-prepares : goal.returns-in-Ok-ready_chain-clause-prepares
 returns-in-Ok-ready_chain-clause-prepares g c = λ calls zip.

@@ -1,6 +1,6 @@
 use Rattle.std.proofs.Common.{Ok, Err, subst}
 use Rattle.av_base.specs.declared.shapes.Shape.{Shape}
-use Rattle.avgraph.specs.HeaderTexts.{header_text}
+use Rattle.y4m_io.specs.HeaderTexts.{header_text}
 use Rattle.avgraph.specs.Commands.{CreatesFile, CreatesWith}
 use Rattle.avgraph.specs.declared.TheConstants.{LIMIT}
 use Rattle.avgraph.proofs.CommandLemmas.{prepare_refused, prepared_writable, create_refused, commands}

@@ -3,7 +3,7 @@ use Rattle.std.proofs.lemmas.Result.{IfErr-weaker}
 use Rattle.av_text.specs.declared.fault.TextFault.{TextFault}
 use Rattle.av_text.proofs.ArgLemmas.{fault_found}
 use Rattle.graph_text.proofs.GraphLemmas.{GraphFaultAt}
-use Rattle.avgraph.specs.declared.fault.Fault.TheVariants as Fault
+use Rattle.av_faults.specs.declared.fault.Fault.TheVariants as Fault
 use Rattle.avgraph.specs.Requests.{RefusesText, TooMany, NoReading, BadCalls, StopsCalls, StopsText}
 use Rattle.avgraph.proofs.ArgCountLemmas.{few_args}
 use Rattle.avgraph.proofs.RequestLemmas.{calls_stop, says_kinds}

@@ -1,10 +1,10 @@
 use Rattle.std.proofs.Common.{◌≡◌, ℤ, pos, ◌+ℤ◌, refl, ap, sym, ◌∙◌, arith}
 use Rattle.std.proofs.lemmas.Int.{ints}
 use Rattle.avgraph.specs.Chains.{ChainValue, passed}
-use Rattle.avgraph.specs.Reading.{Reading}
-use Rattle.avgraph.specs.Writing.{Writing}
-use Rattle.avgraph.specs.declared.stages.Progress.{Progress}
-use Rattle.avgraph.specs.declared.stages.Progress.TheVariants.{Started}
+use Rattle.y4m_io.specs.Reading.{Reading}
+use Rattle.y4m_io.specs.Writing.{Writing}
+use Rattle.y4m_io.specs.declared.y4m_state.Progress.{Progress}
+use Rattle.y4m_io.specs.declared.y4m_state.Progress.TheVariants.{Started}
 use Rattle.avgraph.proofs.RunLemmas.{SoFar-none, step, next_refused, pass_refused, write_refused, finished}
 use Rattle.avgraph.proofs.run.pass_all.Goals as goal
 

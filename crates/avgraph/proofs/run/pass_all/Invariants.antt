@@ -1,5 +1,5 @@
 use Rattle.std.proofs.Common.{◌≡◌, pos}
-use Rattle.avgraph.specs.declared.stages.Stage.TheVariants.{Headed}
+use Rattle.y4m_io.specs.declared.y4m_state.Stage.TheVariants.{Headed}
 use Rattle.avgraph.proofs.RunLemmas.{SoFar}
 use Rattle.avgraph.proofs.run.pass_all.Given as goal
 

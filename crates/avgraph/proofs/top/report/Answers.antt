@@ -1,5 +1,5 @@
 use Rattle.std.proofs.Common.{◌≡◌, ◌∙◌}
-use Rattle.avgraph.specs.Faults.{stop_line}
+use Rattle.av_faults.specs.Faults.{stop_line}
 use Rattle.avgraph.proofs.HeadlineLemmas.{prints_of}
 use Rattle.avgraph.proofs.top.report.Goals as goal
 

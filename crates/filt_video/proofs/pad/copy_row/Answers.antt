@@ -1,6 +1,6 @@
 use Rattle.std.proofs.Common.{◌≡◌, ◌-◌, ◌+◌, ◌∙◌, sym, ap, ℕ, length, take, drop, rules, arith}
 use Rattle.std.proofs.lemmas.List.{length-take, length-drop}
-use Rattle.filt_video.specs.Maps.{sample}
+use Rattle.av_frame.specs.Pictures.{sample}
 use Rattle.av_frame.specs.Sources.{source_at}
 use Rattle.filt_video.proofs.PasteLemmas.{pasted}
 use Rattle.filt_video.proofs.pad.copy_row.Goals as goal

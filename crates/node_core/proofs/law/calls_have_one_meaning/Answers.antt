@@ -1,4 +1,4 @@
-use Rattle.node_core.proofs.KindLaws.{one_meaning}
+use Rattle.node_core.proofs.LawLemmas.{one_meaning}
 use Rattle.node_core.proofs.law.calls_have_one_meaning.Goals as goal
 
 pub returns : goal.returns

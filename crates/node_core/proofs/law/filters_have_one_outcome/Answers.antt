@@ -1,4 +1,4 @@
-use Rattle.node_core.proofs.KindLaws.{one_outcome}
+use Rattle.node_core.proofs.LawLemmas.{one_outcome}
 use Rattle.node_core.proofs.law.filters_have_one_outcome.Goals as goal
 
 pub returns : goal.returns

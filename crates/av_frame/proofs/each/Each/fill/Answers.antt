@@ -1,15 +1,18 @@
-use Rattle.std.proofs.Common.{◌≡◌, ℕ, ◌<◌, List, [], ◌∷◌, ◌++◌, length, Some, sym, ◌∙◌, ap}
+use Rattle.std.proofs.Common.{◌≡◌, ℕ, ◌<◌, ◌+◌, List, [], ◌∷◌, ◌++◌, length, Some, sym, ◌∙◌, ap}
 use Rattle.std.specs.Prelude.{slice_get}
 use Rattle.av_frame.specs.Frames.{FrameValue}
 use Rattle.av_frame.specs.Streams.{after}
-use Rattle.av_frame.specs.Rules.{queue, held, each_stream}
-use Rattle.av_frame.proofs.EachLemmas.{length-row, row_at, made_first, not_dry}
+use Rattle.av_frame.specs.Rules.{later_row, queue, held, each_stream}
+use Rattle.av_frame.proofs.EachLemmas.{length-later, row_at, made_first, not_dry}
 use Rattle.av_frame.proofs.each.Each.fill.Goals as goal
 
 pub push_row-requires-clause-outputs : goal.push_row-requires-clause-outputs
 push_row-requires-clause-outputs g c =
-    ap length (c.into_vec.ensures ∙ c.in-Ok.ensures.ok)
-    ∙ (length-row (g.P.PerFrame.made c.self.inside.rule) (g.P.PerFrame.outputs c.self.inside.rule) c.in-Some.frame
+    let P = g.P.PerFrame in
+    let rule = c.self.inside.rule in
+    let later : c.make.new.others.items ≡ later_row (P.made rule) (P.outputs rule) c.in-Some.frame = rw c.new-others.ensures.items at c.in-Ok.ensures.later in
+    ap (λ (ys : List FrameValue). length ys + 1) later
+    ∙ (length-later (P.made rule) (P.outputs rule) c.in-Some.frame (g.met.P.PerFrame.some rule)
     ∙ sym (ap length c.reserve.ensures.lists ∙ c.self.invariant.0))
 
 pub returns-in-Ok-clause-rest : goal.returns-in-Ok-clause-rest
@@ -18,7 +21,8 @@ returns-in-Ok-clause-rest g c ins o h =
     let rule = c.self.inside.rule in
     let x = c.in-Some.frame in
     let below : o < P.outputs rule = rw (← c.self.view_is) at h in
-    let made : slice_get c.into_vec.result.items o ≡ Some (P.made rule o x) = ap (λ (ys : List FrameValue). slice_get ys o) (c.into_vec.ensures ∙ c.in-Ok.ensures.ok) ∙ row_at (P.made rule) (P.outputs rule) x o below in
+    let later : c.make.new.others.items ≡ later_row (P.made rule) (P.outputs rule) x = rw c.new-others.ensures.items at c.in-Ok.ensures.later in
+    let made : slice_get (c.in-Ok.first ∷ c.make.new.others.items) o ≡ Some (P.made rule o x) = rw (c.in-Ok.ensures.first, later) (row_at (P.made rule) (P.outputs rule) x o below) in
     let pushed : queue c.push_row.new.self.lists o ≡ queue c.self.inside.waiting.lists o ++ P.made rule o x ∷ [] = rw c.reserve.ensures.lists at c.push_row.ensures.pushed o (P.made rule o x) made in
     rw (← c.self.view_is)
     (made_first (queue c.push_row.new.self.lists o) (queue c.self.inside.waiting.lists o) (P.made rule o) (P.made c.make.new.self o) c.pop_front.new.self.items x c.self.inside.finished (ins 0)
@@ -32,5 +36,6 @@ returns-in-Ok-clause-some g c dry =
     let o = c.args.output in
     let x = c.in-Some.frame in
     let below : o < P.outputs rule = rw (← c.self.view_is) at c.requires.port in
-    let made : slice_get c.into_vec.result.items o ≡ Some (P.made rule o x) = ap (λ (ys : List FrameValue). slice_get ys o) (c.into_vec.ensures ∙ c.in-Ok.ensures.ok) ∙ row_at (P.made rule) (P.outputs rule) x o below in
+    let later : c.make.new.others.items ≡ later_row (P.made rule) (P.outputs rule) x = rw c.new-others.ensures.items at c.in-Ok.ensures.later in
+    let made : slice_get (c.in-Ok.first ∷ c.make.new.others.items) o ≡ Some (P.made rule o x) = rw (c.in-Ok.ensures.first, later) (row_at (P.made rule) (P.outputs rule) x o below) in
     absurd (not_dry _ _ (P.made rule o x) (c.push_row.ensures.pushed o (P.made rule o x) made) dry)

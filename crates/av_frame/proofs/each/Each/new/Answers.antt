@@ -1,4 +1,5 @@
 use Rattle.std.proofs.Common.{◌<◌, refl, arith}
+use Rattle.av_frame.specs.EachLaws.{each_rule_laws}
 use Rattle.av_frame.proofs.EachLemmas.{starts, lawful_map}
 use Rattle.av_frame.proofs.each.Each.new.Goals as goal
 
@@ -10,6 +11,7 @@ returns g c =
       pads_are = rw c.requires refl;
       rest_is = λ ins o h. rw c.new-2.ensures.items (starts c.in_ok-waiting.waiting.lists c.args.outputs (P.made rule o) (ins 0) o c.in_ok-waiting.ensures h);
       accepts_first = λ i x h e. e;
+      begins = (each_rule_laws c.args.outputs (P.made rule)).begins;
       lawful = λ ins r o h.
           let below : o < P.outputs rule = rw c.requires h in
           lawful_map (P.made rule o) (P.shape rule) (P.out_shape rule o)

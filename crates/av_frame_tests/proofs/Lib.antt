@@ -1,0 +1,3 @@
+mod SmallFilterLemmas
+mod SyncedLemmas
+mod SyncedEvents

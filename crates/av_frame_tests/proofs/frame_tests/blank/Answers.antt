@@ -1,0 +1,13 @@
+use Rattle.std.proofs.Common.{arith, refl}
+use Rattle.av_base.proofs.LowestTerms.{IsLowest-over_one, IsLowest-one_over}
+use Rattle.av_frame_tests.proofs.frame_tests.blank.Goals as goal
+
+pub blank-requires-clause-lawful : goal.blank-requires-clause-lawful
+blank-requires-clause-lawful c = record {
+  width = omega arith;
+  height = omega arith;
+  aspect = IsLowest-over_one 0 (omega arith);
+  rate = IsLowest-over_one 25 (omega arith);
+  base = (IsLowest-one_over 25 (omega arith) (omega arith), omega arith);
+  scan = (0, omega arith, refl);
+}

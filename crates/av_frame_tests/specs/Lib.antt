@@ -1,0 +1,5 @@
+pub mod Bools
+pub mod SmallFilters
+pub mod SmallFilterLaws
+pub mod Synced
+pub mod SyncedLaws

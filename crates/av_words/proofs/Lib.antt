@@ -1,0 +1,5 @@
+mod WordRoleLemmas
+mod WordValueLemmas
+mod WordCheckLemmas
+mod CommandPartLemmas
+mod WordLawLemmas

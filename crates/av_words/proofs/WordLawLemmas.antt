@@ -1,0 +1,292 @@
+-- Words say one command or have one fault at most, and never both.
+use Rattle.std.proofs.Common.{◌≡◌, ◌<◌, ◌++◌, ◌⊎◌, ℕ, Bool, true, false, not, zero, suc, List, [], ◌∷◌, Result, Ok, Err, IfOk, Option, Some, None, filter, drop, get_or, refl, sym, ◌∙◌, ap, subst, inl, inr, arith}
+use Rattle.std.specs.Result.{IsErr, IsErrAnd}
+use Rattle.std.specs.List.{AllZip, slice_get}
+use Rattle.std.specs.Option.{is_some}
+use Rattle.std.proofs.lemmas.Bool.{false≢true}
+use Rattle.std.proofs.lemmas.Bool.{cases_order}
+use Rattle.std.proofs.lemmas.Bool.Decides.{same_from_decides}
+use Rattle.std.proofs.lemmas.Option.{same_Some, none-some}
+use Rattle.av_base.specs.declared.formats.Media.{Media}
+use Rattle.av_text.specs.Classes.{is_label}
+use Rattle.av_text.specs.Numbers.{IsNumber}
+use Rattle.av_text.proofs.Runs.{run_unique}
+use Rattle.graph_plan.specs.declared.plan.Ending.{Ending}
+use Rattle.av_words.specs.declared.command_words.Command.{Command}
+use Rattle.av_words.specs.declared.command_words.InputWord.{InputWord}
+use Rattle.av_words.specs.declared.command_words.InputWord.TheVariants as input
+use Rattle.av_words.specs.declared.command_words.OutputWord.{OutputWord}
+use Rattle.av_words.specs.declared.word_roles.Role.{Role}
+use Rattle.av_words.specs.declared.word_roles.Role.TheVariants.{Value, File}
+use Rattle.av_words.specs.declared.word_roles.Valued.{Valued}
+use Rattle.av_words.specs.declared.word_roles.Valued.TheVariants.{Workers, Slices, Order, Input, Generator, Graph}
+use Rattle.av_words.specs.declared.word_faults.WordError.{WordError}
+use Rattle.av_words.specs.declared.word_faults.WordError.TheVariants as error
+use Rattle.av_faults.specs.declared.fault.Fault.{Fault}
+use Rattle.av_faults.specs.declared.fault.Fault.TheVariants.{UnknownWord, MissingValue, BadNumber, BadEnding, SameName, NoGraph, NoOutput}
+use Rattle.av_words.specs.WordRoles.{Said, said}
+use Rattle.av_words.specs.WordValues.{IsLabelled, IsCount, IsMade, SaysOrder, SaysMade}
+use Rattle.av_words.specs.WordFaults.{Lacks, IsLast, HasFault, word_of, rank_of, IsBefore, Precedes, IsFirstFault, IfFault, Gives, Refuses}
+use Rattle.av_words.specs.WordChecks.{HasNoneAt, IsLastOf}
+use Rattle.av_words.specs.CommandWords.{IsFaultless, SaysInputAs, SaysInput, is_input, Output, outputs_behind, IsLabelOf, SaysOutput, IsSet, SaysCommand, WordsSayOneThing}
+use Rattle.av_words.proofs.WordCheckLemmas.{said_as}
+
+-- ---- faults
+
+fault_at : ℕ → Option ℕ → Fault
+fault_at zero (Some n) = UnknownWord n
+fault_at (suc zero) (Some n) = MissingValue n
+fault_at (suc (suc zero)) (Some n) = BadNumber n
+fault_at (suc (suc (suc zero))) (Some n) = BadEnding n
+fault_at (suc (suc (suc (suc zero)))) (Some n) = SameName n
+fault_at (suc (suc (suc (suc (suc zero))))) None = NoGraph
+fault_at other word = NoOutput
+
+is_at : (line : List Said) (f : Fault) → HasFault line f → f ≡ fault_at (rank_of f) (word_of f)
+unfolding fault_at
+is_at line (UnknownWord n) has = refl
+is_at line (MissingValue n) has = refl
+is_at line (BadNumber n) has = refl
+is_at line (BadEnding n) has = refl
+is_at line (SameName n) has = refl
+is_at line NoGraph has = refl
+is_at line NoOutput has = refl
+is_at line other has = absurd has
+
+order_words : (a b : Option ℕ) → (a ≡ b) ⊎ (IsBefore a b ⊎ IsBefore b a)
+order_words None None = inl refl
+order_words None (Some m) = inr (inr tt)
+order_words (Some n) None = inr (inl tt)
+order_words (Some n) (Some m) = elim (cases_order n m) [
+  | inl e ↦ inl (ap (λ (k : ℕ). Some k) e)
+  | inr less ↦ inr less
+]
+
+order_faults : (line : List Said) (f g : Fault) → HasFault line f → HasFault line g → (f ≡ g) ⊎ (Precedes f g ⊎ Precedes g f)
+order_faults line f g has there = elim (order_words (word_of f) (word_of g)) [
+  | inl same ↦ elim (cases_order (rank_of f) (rank_of g)) [
+    | inl e ↦ inl (is_at line f has ∙ (ap (λ (k : ℕ). fault_at k (word_of f)) e ∙ (ap (fault_at (rank_of g)) same ∙ sym (is_at line g there))))
+    | inr less ↦ elim less [ inl before ↦ inr (inl (inr (same, before))) | inr behind ↦ inr (inr (inr (sym same, behind))) ]
+  ]
+  | inr apart ↦ elim apart [ inl before ↦ inr (inl (inl before)) | inr behind ↦ inr (inr (inl behind)) ]
+]
+
+pub same_fault : (line : List Said) (f g : Fault) → IsFirstFault line f → IsFirstFault line g → f ≡ g
+same_fault line f g a b = elim (order_faults line f g a.has b.has) [
+  | inl same ↦ same
+  | inr apart ↦ elim apart [ inl before ↦ absurd (b.first f a.has before) | inr behind ↦ absurd (a.first g b.has behind) ]
+]
+
+-- ---- lists beside each other
+
+zip_same : {X Y : Type 0} (R : X → Y → Type 0) → ((x : X) (y z : Y) → R x y → R x z → y ≡ z) → (xs : List X) (ys zs : List Y) → AllZip R xs ys → AllZip R xs zs → ys ≡ zs
+zip_same R one [] [] [] p q = refl
+zip_same R one [] [] (z ∷ zs) p q = absurd q
+zip_same R one [] (y ∷ ys) zs p q = absurd p
+zip_same R one (x ∷ xs) [] zs p q = absurd p
+zip_same R one (x ∷ xs) (y ∷ ys) [] p q = absurd q
+zip_same {X} {Y} R one (x ∷ xs) (y ∷ ys) (z ∷ zs) p q =
+    let first = one x y z p.0 q.0 in
+    let others = zip_same R one xs ys zs p.1 q.1 in
+    ap (λ (a : Y). a ∷ ys) first ∙ ap (λ (l : List Y). z ∷ l) others
+
+-- ---- values
+
+same_number : {least most : ℕ} (text : List ℕ) (a b : ℕ) → IsNumber least most text a → IsNumber least most text b → a ≡ b
+same_number text a b p q = p.value ∙ sym q.value
+
+same_made : (a b c d : List ℕ) (x y : InputWord) → IsMade a b c d x → IsMade a b c d y → x ≡ y
+same_made a b c d x y p q =
+    let seed = same_number a p.seed q.seed p.is_seed.number q.is_seed.number in
+    let width = same_number b p.width q.width p.is_width.number q.is_width.number in
+    let height = same_number c p.height q.height p.is_height.number q.is_height.number in
+    let frames = same_number d p.frames q.frames p.is_frames.number q.is_frames.number in
+    p.input_is ∙ (
+    ap (λ (n : ℕ). input.Made n p.width p.height p.frames) seed
+    ∙ (ap (λ (n : ℕ). input.Made q.seed n p.height p.frames) width
+    ∙ (ap (λ (n : ℕ). input.Made q.seed q.width n p.frames) height
+    ∙ (ap (λ (n : ℕ). input.Made q.seed q.width q.height n) frames ∙ sym q.input_is)))
+    )
+
+one_made : (text : List ℕ) (x y : InputWord) → SaysMade text x → SaysMade text y → x ≡ y
+one_made text x y p q =
+    let all = sym p.4 ∙ q.4 in
+    let seed = ap (λ (l : List (List ℕ)). get_or l 0 []) all in
+    let width = ap (λ (l : List (List ℕ)). get_or l 1 []) all in
+    let height = ap (λ (l : List (List ℕ)). get_or l 2 []) all in
+    let frames = ap (λ (l : List (List ℕ)). get_or l 3 []) all in
+    same_made q.0 q.1 q.2 q.3 x y (rw (seed, width, height, frames) at p.5) q.5
+
+one_label : (text a b : List ℕ) → IsLabelled text a → IsLabelled text b → a ≡ b
+one_label text a b p q =
+    let tails : a ++ 93 ∷ [] ≡ b ++ 93 ∷ [] = ap (λ (xs : List ℕ). drop 1 xs) (sym p.text_is ∙ q.text_is) in
+    (run_unique is_label a b (93 ∷ []) (93 ∷ []) p.each q.each refl refl tails).0
+
+-- ---- inputs and outputs
+
+one_input : (role : Role) (word : List ℕ) (x y : InputWord) → SaysInputAs role word x → SaysInputAs role word y → x ≡ y
+one_input (Value Input) word (input.File n m) (input.File k l) p q =
+    ap (λ (a : List ℕ). input.File a m) (p.0 ∙ sym q.0) ∙ ap (λ (a : Media). input.File k a) (same_Some m l (sym p.1 ∙ q.1))
+one_input (Value Input) word (input.File n m) (input.Made a b c d) p q = absurd q
+one_input (Value Input) word (input.Made a b c d) y p q = absurd p
+one_input (Value Generator) word x y p q = one_made word x y p q
+one_input other word x y p q = absurd p
+
+one_label_of : (map a b : Option (List ℕ)) → IsLabelOf map a → IsLabelOf map b → a ≡ b
+one_label_of None a b p q = p ∙ sym q
+one_label_of (Some value) None b p q = absurd p
+one_label_of (Some value) (Some a) None p q = absurd q
+one_label_of (Some value) (Some a) (Some b) p q = ap (λ (l : List ℕ). Some l) (one_label value a b p q)
+
+one_output : (o : Output) (x y : OutputWord) → SaysOutput o x → SaysOutput o y → x ≡ y
+one_output o x y p q =
+    let name = p.name ∙ sym q.name in
+    let label = one_label_of o.map x.file.label y.file.label p.label q.label in
+    let ending = same_Some x.file.ending y.file.ending (sym p.ending ∙ q.ending) in
+    let by_name : x ≡ record { name = y.name; file = x.file } = ap (λ (n : List ℕ). record { name = n; file = x.file }) name in
+    let by_label : ◌≡◌ {A = OutputWord} (record { name = y.name; file = x.file }) (record { name = y.name; file = record { label = y.file.label; ending = x.file.ending } }) =
+    ap (λ (l : Option (List ℕ)). record { name = y.name; file = record { label = l; ending = x.file.ending } }) label in
+    let by_ending : ◌≡◌ {A = OutputWord} (record { name = y.name; file = record { label = y.file.label; ending = x.file.ending } }) y =
+    ap (λ (e : Ending). record { name = y.name; file = record { label = y.file.label; ending = e } }) ending in
+    by_name ∙ (by_label ∙ by_ending)
+
+-- ---- settings
+
+same_last : (line : List Said) (role : Role) (a b : ℕ) (x y : List ℕ) → IsLast line role a x → IsLast line role b y → x ≡ y
+same_last line role a b x y p q = elim (cases_order a b) [
+  | inl same ↦ ap (λ (s : Said). s.word) (same_Some (said_as role x) (said_as role y) (sym p.here ∙ (ap (slice_get line) same ∙ q.here)))
+  | inr apart ↦ elim apart [ inl less ↦ absurd (p.later b y less q.here) | inr more ↦ absurd (q.later a x more p.here) ]
+]
+
+one_setting : {X : Type 0} (line : List Said) (option : Valued) (Says : List ℕ → X → Type 0) (unset : X) → ((value : List ℕ) (x y : X) → Says value x → Says value y → x ≡ y)
+    → (x y : X) → IsSet line option Says unset x → IsSet line option Says unset y → x ≡ y
+one_setting line option Says unset one x y p q = elim p [
+  | inl a ↦ elim q [ inl b ↦ a.1 ∙ sym b.1 | inr b ↦ absurd (a.0 b.1 (b.0, b.2.here)) ]
+  | inr a ↦ elim q [
+    | inl b ↦ absurd (b.0 a.1 (a.0, a.2.here))
+    | inr b ↦ (
+        let same = same_last line (Value option) a.0 b.0 a.1 b.1 a.2 b.2 in
+        one b.1 x y (subst (λ (v : List ℕ). Says v x) same a.3) b.3
+        )
+  ]
+]
+
+one_count : (least : ℕ) (value : List ℕ) (a b : ℕ) → IsCount least value a → IsCount least value b → a ≡ b
+one_count least value a b p q = same_number value a b p.number q.number
+
+one_order : (value : List ℕ) (a b : List ℕ) → SaysOrder value a → SaysOrder value b → a ≡ b
+one_order value a b p q = zip_same (IsNumber 1 4) (λ text x y. same_number text x y) _ a b p q
+
+-- ---- commands
+
+pub same_command : (line : List Said) (a b : Command) → SaysCommand line a → SaysCommand line b → a ≡ b
+same_command line a b p q =
+    let inputs = zip_same SaysInput (λ item x y. one_input item.role item.word x y) (filter is_input line) a.inputs b.inputs p.inputs q.inputs in
+    let text = same_last line (Value Graph) p.text.0 q.text.0 a.text b.text p.text.1 q.text.1 in
+    let outputs = zip_same SaysOutput one_output (outputs_behind None line) a.outputs b.outputs p.outputs q.outputs in
+    let workers = one_setting line Workers (IsCount 0) 0 (one_count 0) a.workers b.workers p.workers q.workers in
+    let slices = one_setting line Slices (IsCount 1) 1 (one_count 1) a.slices b.slices p.slices q.slices in
+    let order = one_setting line Order SaysOrder [] one_order a.order b.order p.order q.order in
+    let report = same_from_decides a.report b.report p.report q.report in
+    let by_inputs : ◌≡◌ {A = Command} (record { inputs = a.inputs; text = a.text; outputs = a.outputs; workers = a.workers; slices = a.slices; order = a.order; report = a.report }) (record { inputs = b.inputs; text = a.text; outputs = a.outputs; workers = a.workers; slices = a.slices; order = a.order; report = a.report }) = ap (λ (x : List InputWord). record { inputs = x; text = a.text; outputs = a.outputs; workers = a.workers; slices = a.slices; order = a.order; report = a.report }) inputs in
+    let by_text : ◌≡◌ {A = Command} (record { inputs = b.inputs; text = a.text; outputs = a.outputs; workers = a.workers; slices = a.slices; order = a.order; report = a.report }) (record { inputs = b.inputs; text = b.text; outputs = a.outputs; workers = a.workers; slices = a.slices; order = a.order; report = a.report }) = ap (λ (x : List ℕ). record { inputs = b.inputs; text = x; outputs = a.outputs; workers = a.workers; slices = a.slices; order = a.order; report = a.report }) text in
+    let by_outputs : ◌≡◌ {A = Command} (record { inputs = b.inputs; text = b.text; outputs = a.outputs; workers = a.workers; slices = a.slices; order = a.order; report = a.report }) (record { inputs = b.inputs; text = b.text; outputs = b.outputs; workers = a.workers; slices = a.slices; order = a.order; report = a.report }) = ap (λ (x : List OutputWord). record { inputs = b.inputs; text = b.text; outputs = x; workers = a.workers; slices = a.slices; order = a.order; report = a.report }) outputs in
+    let by_workers : ◌≡◌ {A = Command} (record { inputs = b.inputs; text = b.text; outputs = b.outputs; workers = a.workers; slices = a.slices; order = a.order; report = a.report }) (record { inputs = b.inputs; text = b.text; outputs = b.outputs; workers = b.workers; slices = a.slices; order = a.order; report = a.report }) = ap (λ (x : ℕ). record { inputs = b.inputs; text = b.text; outputs = b.outputs; workers = x; slices = a.slices; order = a.order; report = a.report }) workers in
+    let by_slices : ◌≡◌ {A = Command} (record { inputs = b.inputs; text = b.text; outputs = b.outputs; workers = b.workers; slices = a.slices; order = a.order; report = a.report }) (record { inputs = b.inputs; text = b.text; outputs = b.outputs; workers = b.workers; slices = b.slices; order = a.order; report = a.report }) = ap (λ (x : ℕ). record { inputs = b.inputs; text = b.text; outputs = b.outputs; workers = b.workers; slices = x; order = a.order; report = a.report }) slices in
+    let by_order : ◌≡◌ {A = Command} (record { inputs = b.inputs; text = b.text; outputs = b.outputs; workers = b.workers; slices = b.slices; order = a.order; report = a.report }) (record { inputs = b.inputs; text = b.text; outputs = b.outputs; workers = b.workers; slices = b.slices; order = b.order; report = a.report }) = ap (λ (x : List ℕ). record { inputs = b.inputs; text = b.text; outputs = b.outputs; workers = b.workers; slices = b.slices; order = x; report = a.report }) order in
+    let by_report : ◌≡◌ {A = Command} (record { inputs = b.inputs; text = b.text; outputs = b.outputs; workers = b.workers; slices = b.slices; order = b.order; report = a.report }) (record { inputs = b.inputs; text = b.text; outputs = b.outputs; workers = b.workers; slices = b.slices; order = b.order; report = b.report }) = ap (λ (x : Bool). record { inputs = b.inputs; text = b.text; outputs = b.outputs; workers = b.workers; slices = b.slices; order = b.order; report = x }) report in
+    by_inputs ∙ (by_text ∙ (by_outputs ∙ (by_workers ∙ (by_slices ∙ (by_order ∙ (by_report))))))
+
+pub words_say_one_thing : WordsSayOneThing
+words_say_one_thing = record {
+  one_command = λ words a b p q. same_command (said words) a b p q;
+  one_fault = λ words f g p q. same_fault (said words) f g p q;
+  not_both = λ words command fault says is. says.faultless fault is.has;
+}
+
+-- ---- a whole line
+
+-- no fault stands at a word
+abbrev pub AreClean : List Said → Type 0
+AreClean line = (n : ℕ) → HasNoneAt line n
+
+before_none : (o : Option ℕ) → IsBefore o None → (n : ℕ) × (o ≡ Some n)
+before_none (Some n) before = (n, refl)
+before_none None before = absurd before
+
+is_first : (line : List Said) (fault : Fault) → word_of fault ≡ None → HasFault line fault → AreClean line
+    → ((other : Fault) → word_of other ≡ None → rank_of other < rank_of fault → HasFault line other → ⊥) → IsFirstFault line fault
+is_first line fault last has clean first = record {
+  has = has;
+  first = λ other there comes. elim comes [
+    | inl before ↦ (let at = before_none (word_of other) (subst (λ (o : Option ℕ). IsBefore (word_of other) o) last before) in clean at.0 other at.1 there)
+    | inr same ↦ first other (same.0 ∙ last) same.1 there
+  ];
+}
+
+pub no_graph_first : (line : List Said) → AreClean line → Lacks line (Value Graph) → IsFirstFault line NoGraph
+no_graph_first line clean lacks = is_first line NoGraph refl lacks clean below
+  where
+    below : (other : Fault) → word_of other ≡ None → rank_of other < 5 → HasFault line other → ⊥
+    below (UnknownWord n) is less there = none-some n (sym is)
+    below (MissingValue n) is less there = none-some n (sym is)
+    below (BadNumber n) is less there = none-some n (sym is)
+    below (BadEnding n) is less there = none-some n (sym is)
+    below (SameName n) is less there = none-some n (sym is)
+    below NoGraph is less there = absurd (omega arith)
+    below NoOutput is less there = absurd (omega arith)
+    below rest is less there = absurd there
+
+pub no_output_first : (line : List Said) → AreClean line → (Lacks line (Value Graph) → ⊥) → Lacks line File → IsFirstFault line NoOutput
+no_output_first line clean graph lacks = is_first line NoOutput refl lacks clean below
+  where
+    below : (other : Fault) → word_of other ≡ None → rank_of other < 6 → HasFault line other → ⊥
+    below (UnknownWord n) is less there = none-some n (sym is)
+    below (MissingValue n) is less there = none-some n (sym is)
+    below (BadNumber n) is less there = none-some n (sym is)
+    below (BadEnding n) is less there = none-some n (sym is)
+    below (SameName n) is less there = none-some n (sym is)
+    below NoGraph is less there = graph there
+    below NoOutput is less there = absurd (omega arith)
+    below rest is less there = absurd there
+
+pub is_faultless : (line : List Said) → AreClean line → (Lacks line (Value Graph) → ⊥) → (Lacks line File → ⊥) → IsFaultless line
+is_faultless line clean graph file (UnknownWord n) there = clean n (UnknownWord n) refl there
+is_faultless line clean graph file (MissingValue n) there = clean n (MissingValue n) refl there
+is_faultless line clean graph file (BadNumber n) there = clean n (BadNumber n) refl there
+is_faultless line clean graph file (BadEnding n) there = clean n (BadEnding n) refl there
+is_faultless line clean graph file (SameName n) there = clean n (SameName n) refl there
+is_faultless line clean graph file NoGraph there = graph there
+is_faultless line clean graph file NoOutput there = file there
+is_faultless line clean graph file other there = there
+
+-- ---- answers
+
+-- what is answered is the command or the fault, so what words say is answered
+pub says_given : (line : List Said) (result : Result Command WordError) → IfOk result (SaysCommand line) → IfFault result (IsFirstFault line) → (command : Command) → SaysCommand line command → Gives command result
+says_given line (Ok x) ok fault command is = same_command line x command ok is
+says_given line (Err (error.Fault f)) ok fault command is = is.faultless f fault.has
+says_given line (Err error.NoMemory) ok fault command is = tt
+
+pub fault_given : (line : List Said) (result : Result Command WordError) → IfOk result (SaysCommand line) → IfFault result (IsFirstFault line) → (fault : Fault) → IsFirstFault line fault → Refuses fault result
+fault_given line (Ok x) ok found fault is = ok.faultless fault is.has
+fault_given line (Err (error.Fault f)) ok found fault is = same_fault line f fault found is
+fault_given line (Err error.NoMemory) ok found fault is = tt
+
+-- the same where an error was passed on
+pub fault_passed : (line : List Said) (e : WordError) (result : Result Command WordError) → IsErr result × IsErrAnd result (λ d. d ≡ e) → IfFault {X = Unit {0}} (Err e) (IsFirstFault line) → (fault : Fault) → IsFirstFault line fault
+    → Refuses fault result
+fault_passed line e (Ok x) passed found fault is = absurd passed.1
+fault_passed line e (Err (error.Fault f)) passed found fault is =
+    same_fault line f fault (subst (λ (d : WordError). IfFault {X = Unit {0}} (Err d) (IsFirstFault line)) (sym passed.1) found) is
+fault_passed line e (Err error.NoMemory) passed found fault is = tt
+
+-- ---- the last word of a role
+
+pub none_last : (line : List Said) (role : Role) (last : Option ℕ) (r : Bool) → is_some last ≡ not r → r ≡ true → IsLastOf line role last → Lacks line role
+none_last line role None r e is lacks = lacks
+none_last line role (Some at) r e is last = absurd (false≢true (sym (e ∙ ap not is)))
+
+pub some_last : (line : List Said) (role : Role) (last : Option ℕ) (r : Bool) → is_some last ≡ not r → r ≡ false → IsLastOf line role last → Lacks line role → ⊥
+some_last line role None r e is lacks all = false≢true (e ∙ ap not is)
+some_last line role (Some at) r e is last all = all last.0 (at, last.1.here)

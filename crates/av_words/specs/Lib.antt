@@ -1,0 +1,5 @@
+pub mod WordRoles
+pub mod WordValues
+pub mod WordFaults
+pub mod WordChecks
+pub mod CommandWords

@@ -1,8 +1,0 @@
-use Rattle.std.proofs.Common.{take, filter}
-use Rattle.std.specs.List.{AllZip}
-use Rattle.avgraph.specs.WordRoles.{line_of}
-use Rattle.avgraph.specs.CommandWords.{is_input, SaysInput}
-use Rattle.avgraph.proofs.command_parts.list_inputs.Given as goal
-
-abbrev pub invariant-items : goal.invariant-items
-invariant-items l = AllZip SaysInput (filter is_input (take l.item-index (line_of l.items))) l.inputs.items

@@ -1,0 +1,2 @@
+mod AspectLemmas
+mod ResultLemmas

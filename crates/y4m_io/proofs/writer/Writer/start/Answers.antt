@@ -1,0 +1,6 @@
+use Rattle.std.proofs.Common.{rules}
+use Rattle.av_host.proofs.Runs.{Changes-nil}
+use Rattle.y4m_io.proofs.writer.Writer.start.Goals as goal
+
+pub returns-in-Err-clause-writes : goal.returns-in-Err-clause-writes
+returns-in-Err-clause-writes g c = ((0, Changes-nil (g.H.Host.world c.args.host.now) c.args.self.now.id), search rules)

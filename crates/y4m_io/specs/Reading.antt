@@ -1,0 +1,107 @@
+-- A reader of a file, and what its calls give.
+use Rattle.std.specs.Prelude.{◌≡◌, ◌+◌, ◌-◌, ◌<◌, ◌≤◌, ℕ, List, [], take, length, Option, Some, None, Result, Ok, Err}
+use Rattle.std.specs.Option.{ForSome}
+use Rattle.av_base.specs.declared.shapes.Shape.{Shape}
+use Rattle.av_base.specs.Shapes.{IsLawful, IsVideo, IsWithinLimits}
+use Rattle.av_host.specs.World.{World, Faults}
+use Rattle.av_host.specs.Calls.{Reads, RaisesReads}
+use Rattle.av_frame.specs.declared.faults.HeadError.{HeadError}
+use Rattle.av_frame.specs.declared.faults.HeadError.TheVariants as head
+use Rattle.av_frame.specs.declared.faults.NextError.{NextError}
+use Rattle.av_frame.specs.declared.faults.NextError.TheVariants as next
+use Rattle.av_frame.specs.Frames.{FrameValue}
+use Rattle.av_host.specs.HostRuns.{ReadsSome}
+use Rattle.y4m_io.specs.HeaderTexts.{IsHeader, BeginsHeader}
+use Rattle.y4m_io.specs.FrameTexts.{frame_text, IsFrameAt, IsBadFrame, IsTruncated, IsPastLimit}
+use Rattle.y4m_io.specs.declared.y4m_state.Stage.{Stage}
+use Rattle.y4m_io.specs.declared.y4m_state.Stage.TheVariants.{Fresh, Headed, Spent}
+
+-- A reader stands for what is left of its input. `room` is how many of these bytes are within the limit, and `frames`
+-- how many frames it has given.
+pub record Reading : Type 0 where
+  pub id : ℕ
+  pub room : ℕ
+  pub frames : ℕ
+  pub stage : Stage
+
+-- pictures of the shape fit into memory
+pub record IsReadable (shape : Shape) : Type 0 where
+  pub lawful : IsLawful shape
+  pub video : IsVideo shape.format
+  pub limits : IsWithinLimits shape
+
+-- a reader that has read its header knows a shape that it can read
+abbrev pub IsSound : Stage → Type 0
+IsSound Fresh = Unit {0}
+IsSound (Headed shape) = IsReadable shape
+IsSound Spent = Unit {0}
+
+-- the reader has read its header, and no call was refused
+abbrev pub IsHeaded : Stage → Type 0
+IsHeaded (Headed shape) = Unit {0}
+IsHeaded other = ⊥
+
+-- ---- the header
+
+-- The header line was read, within the limit.
+pub record GivesHeader (old new : World) (reader after : Reading) (shape : Shape) : Type 0 where
+  pub line : List ℕ
+  pub reads : Reads old new reader.id line
+  pub header : IsHeader line shape
+  pub within : length line ≤ reader.room
+  pub after_is : after ≡ record reader { room = reader.room - length line; stage = Headed shape }
+
+-- The reader is spent, and what it stood for is as `Cause` says where the host tells it.
+pub record Refuses (old new : World) (reader after : Reading) (Cause : List ℕ → Type 0) : Type 0 where
+  pub reads : ReadsSome old new reader.id
+  pub after_is : after ≡ record reader { stage = Spent }
+  pub cause : ForSome (old.inputs.left reader.id) Cause
+
+-- no header line begins here, within the limit
+abbrev pub IsBadHeader : ℕ → List ℕ → Type 0
+IsBadHeader room left = ¬ BeginsHeader (take room left)
+
+-- nor does the input end within the limit, which is less than a header line may have
+abbrev pub IsHeaderTooLong : ℕ → List ℕ → Type 0
+IsHeaderTooLong room left = (room < 1024) × (room < length left) × ¬ BeginsHeader (take room left)
+
+abbrev pub Heads : World → World → Reading → Reading → Result Shape HeadError → Type 0
+Heads old new reader after (Ok shape) = GivesHeader old new reader after shape
+Heads old new reader after (Err head.BadHeader) = Refuses old new reader after (IsBadHeader reader.room)
+Heads old new reader after (Err head.TooLong) = Refuses old new reader after (IsHeaderTooLong reader.room)
+Heads old new reader after (Err head.Host) = Refuses old new reader after (λ left. Unit {0})
+Heads old new reader after (Err head.NoMemory) = (new ≡ old) × (after ≡ reader)
+
+-- the count of reads rises exactly with `Host`
+abbrev pub CountsHead : Result Shape HeadError → Faults → Faults → Type 0
+CountsHead (Err head.Host) old new = RaisesReads old new
+CountsHead other old new = new ≡ old
+
+-- ---- frames
+
+-- The next frame was read, within the limit.
+pub record GivesFrame (shape : Shape) (old new : World) (reader after : Reading) (f : FrameValue) : Type 0 where
+  pub reads : Reads old new reader.id (frame_text f.planes)
+  pub frame : IsFrameAt shape reader.frames f
+  pub within : length (frame_text f.planes) ≤ reader.room
+  pub after_is : after ≡ record reader { room = reader.room - length (frame_text f.planes); frames = reader.frames + 1 }
+
+-- Nothing is left.
+pub record GivesEnd (old new : World) (reader after : Reading) : Type 0 where
+  pub reads : Reads old new reader.id []
+  pub after_is : after ≡ reader
+  pub ended : ForSome (old.inputs.left reader.id) (λ left. left ≡ [])
+
+abbrev pub Gives : Shape → World → World → Reading → Reading → Result (Option FrameValue) NextError → Type 0
+Gives shape old new reader after (Ok (Some f)) = GivesFrame shape old new reader after f
+Gives shape old new reader after (Ok None) = GivesEnd old new reader after
+Gives shape old new reader after (Err (next.BadFrame k)) = (k ≡ reader.frames) × Refuses old new reader after (IsBadFrame shape reader.room)
+Gives shape old new reader after (Err (next.Truncated k)) = (k ≡ reader.frames) × Refuses old new reader after (IsTruncated shape reader.room)
+Gives shape old new reader after (Err next.TooLong) = Refuses old new reader after (IsPastLimit shape reader.room)
+Gives shape old new reader after (Err next.Host) = Refuses old new reader after (λ left. Unit {0})
+Gives shape old new reader after (Err next.NoMemory) = (new ≡ old) × (after ≡ reader)
+
+-- the count of reads rises exactly with `Host`
+abbrev pub CountsNext : {T : Type 0} → Result T NextError → Faults → Faults → Type 0
+CountsNext (Err next.Host) old new = RaisesReads old new
+CountsNext other old new = new ≡ old

@@ -1,0 +1,34 @@
+-- A writer of a file, and what its calls do.
+use Rattle.std.specs.Prelude.{◌≡◌, ℕ, List, Result, Ok, Err}
+use Rattle.av_base.specs.declared.shapes.Shape.{Shape}
+use Rattle.av_host.specs.World.{World, Faults}
+use Rattle.av_host.specs.Calls.{Changes, appended, RaisesWrites}
+use Rattle.av_frame.specs.declared.faults.WriteError.{WriteError}
+use Rattle.av_frame.specs.declared.faults.WriteError.TheVariants.{Host, NoMemory}
+use Rattle.av_host.specs.declared.host.HostError.{HostError}
+use Rattle.av_host.specs.declared.host.HostError.TheVariants.{Failed}
+use Rattle.av_host.specs.declared.host.HostError.TheVariants as host
+use Rattle.av_host.specs.HostRuns.{WritesPart}
+use Rattle.y4m_io.specs.declared.y4m_state.Progress.{Progress}
+use Rattle.y4m_io.specs.declared.y4m_state.Progress.TheVariants.{Spent}
+
+-- a writer: its output, the shape of its pictures, and how far it is
+pub record Writing : Type 0 where
+  pub id : ℕ
+  pub shape : Shape
+  pub progress : Progress
+
+-- The text was added to the output. After a refusal it is a beginning of the text, and the writer is spent.
+abbrev pub Writes : World → World → Writing → Writing → List ℕ → Progress → Result (Unit {0}) WriteError → Type 0
+Writes old new writer after text progress (Ok done) = Changes old new writer.id (appended text) × (after ≡ record writer { progress = progress })
+Writes old new writer after text progress (Err e) = WritesPart old new writer.id text × (after ≡ record writer { progress = Spent })
+
+-- the count of writes rises exactly with `Host`
+abbrev pub CountsWrite : Result (Unit {0}) WriteError → Faults → Faults → Type 0
+CountsWrite (Err Host) old new = RaisesWrites old new
+CountsWrite other old new = new ≡ old
+
+-- what a writer returns where the host refused
+abbrev pub write_error_of : HostError → WriteError
+write_error_of Failed = Host
+write_error_of host.NoMemory = NoMemory

@@ -1,0 +1,396 @@
+//! The reader of YUV4MPEG2 files.
+ghost use Rattle.std.specs.Prelude.{◌≡◌, ◌≢◌, ◌+◌, ◌*◌, ◌<◌, ◌≤◌, ◌^◌, ◌++◌, [], Some, ◌∷◌, Ok, ℕ, List, take, length, IfOk, IfSome, OnErr, IsTrue, IsSome, MatchResult, Contains};
+ghost use Rattle.std.specs.Option.{ForSome, option_to_list};
+ghost use Rattle.av_base.specs.declared.shapes.Shape.{Shape};
+ghost use Rattle.av_base.specs.Shapes.{planes_of, columns_of, IsWithinLimits};
+ghost use Rattle.av_host.specs.Calls.{Stays, Reads, RaisesReads};
+ghost use Rattle.av_host.specs.HostRuns.{ReadsSome};
+ghost use Rattle.y4m_io.specs.FrameTexts.{frame_size};
+ghost use Rattle.y4m_io.specs.Pieces.{GivesLine, ReadsPlane, ReadsPicture, GivesMark, Finds};
+ghost use Rattle.y4m_io.specs.Reading.{Heads, CountsHead, IsHeaded, Gives, CountsNext};
+ghost use Rattle.y4m_io.specs.declared.y4m_state.Stage.{Stage};
+
+use crate::header::read_header;
+use crate::rows::put_rows;
+use crate::y4m_limits::{FRAME_MARK, LINE_MAX, PIECE};
+use crate::y4m_state::Stage;
+use av_base::{NoMemory, Shape};
+use av_frame::{Edit, Frame, HeadError, NextError, Pools};
+use av_host::{Failed, Host, fill};
+use std::alloc::Global;
+use std::marker::Model;
+
+/// What was found where a line was looked for.
+enum Line {
+    /// A line of so many bytes, with its line feed.
+    Whole(usize),
+    /// The input ends before a line feed, or the line is longer than a header may be.
+    Unended,
+    /// The limit of bytes comes before the line feed, and before the input's end.
+    PastLimit,
+}
+
+/// How a picture ended.
+enum Ending {
+    /// All of it was there.
+    Whole,
+    /// The input ended within it.
+    Short,
+}
+
+/// How much of a frame's first line was there.
+enum Mark {
+    /// All bytes that were looked for, and they are the line's.
+    Whole,
+    /// Some byte is another than the line's.
+    Differs,
+    /// The input ended after so many of the line's bytes.
+    Ended(usize),
+}
+
+/// What was found where a frame may begin.
+enum Found {
+    /// A whole frame.
+    Frame,
+    /// The end of the input.
+    End,
+    /// Something that is no frame, whatever follows.
+    Bad,
+    /// The input's end within a frame.
+    Short,
+    /// The limit of bytes, within a frame that may go on.
+    Past,
+}
+
+/// A reader of one open input of a host. Contracts see which input it reads, how many bytes it may still take, how many
+/// frames it gave, and how far it is. It keeps nothing of the input: what is left for it is what the host has left.
+#[derive(Drop)]
+pub struct Reader {
+    id: u32,
+    room: u64,
+    frames: u64,
+    stage: Stage,
+    buffer: Vec<u8>,
+}
+
+impl Model for Reader {
+    ghost use Rattle.std.specs.Prelude.{◌≡◌, ◌+◌, ◌*◌, ◌<◌, ◌^◌, vec_len};
+    ghost use Rattle.y4m_io.specs.Reading.{Reading, IsSound};
+
+    ghost Value = { Reading };
+
+    ghost view = { λ r. record { id = r.id; room = r.room; frames = r.frames; stage = r.stage } };
+
+    ghost invariant = { λ r. (vec_len r.buffer ≡ 65536) × (6 * r.frames + r.room < 2 ^ 64) × IsSound r.stage };
+}
+
+/// Reads a byte into a place of the buffer. There is none at the end of the input alone.
+fn read_byte<H: Host>(
+    host: &mut H,
+    id: u32,
+    buffer: &mut [u8],
+    at: usize,
+) -> Result<Option<u8>, Failed>
+    requires id { IsTrue ((H.world host.old).inputs.is_open id) }
+    requires at { at < length buffer.old }
+    ensures read { IfOk result (λ byte. Reads (H.world host.old) (H.world host.new) id (option_to_list byte)) }
+    ensures kept { IfOk result (λ byte. IfSome byte (λ b. take (at + 1) buffer.new ≡ take at buffer.old ++ b ∷ [])) }
+    ensures end { result ≡ Ok None → ForSome ((H.world host.old).inputs.left id) (λ left. left ≡ []) }
+    ensures refused { OnErr result (Stays (H.world host.old) (H.world host.new)) }
+    ensures faults { MatchResult result (λ _. (H.world host.new).faults ≡ (H.world host.old).faults)
+        (λ _. RaisesReads (H.world host.old).faults (H.world host.new).faults) }
+{
+    if host.read(id, &mut buffer[at..at + 1])? == 0 {
+        return Ok(None);
+    }
+    Ok(Some(buffer[at]))
+}
+
+/// Reads a line byte by byte, of at most `LINE_MAX` bytes and at most `room`.
+fn read_line<H: Host>(host: &mut H, id: u32, room: u64, buffer: &mut [u8]) -> Result<Line, Failed>
+    requires id { IsTrue ((H.world host.old).inputs.is_open id) }
+    requires long { length buffer.old ≡ 65536 }
+    ensures line { IfOk result (GivesLine (H.world host.old) (H.world host.new) id room buffer.new) }
+    ensures refused { OnErr result (ReadsSome (H.world host.old) (H.world host.new) id) }
+    ensures faults { MatchResult result (λ _. (H.world host.new).faults ≡ (H.world host.old).faults)
+        (λ _. RaisesReads (H.world host.old).faults (H.world host.new).faults) }
+{
+    let most = room.min(LINE_MAX as u64) as usize;
+    for n in 0..most {
+        match read_byte(host, id, buffer, n)? {
+            None => return Ok(Line::Unended),
+            Some(b'\n') => return Ok(Line::Whole(n + 1)),
+            Some(_) => {}
+        }
+    }
+    if most == LINE_MAX {
+        return Ok(Line::Unended);
+    }
+    match read_byte(host, id, buffer, 0)? {
+        None => Ok(Line::Unended),
+        Some(_) => Ok(Line::PastLimit),
+    }
+}
+
+/// Reads the rows of a plane, in pieces of whole rows.
+fn read_plane<H: Host>(
+    host: &mut H,
+    id: u32,
+    edit: &mut Edit,
+    plane: u32,
+    buffer: &mut [u8],
+) -> Result<Ending, Failed>
+    requires id { IsTrue ((H.world host.old).inputs.is_open id) }
+    requires plane { plane < planes_of edit.old.shape }
+    requires narrow { columns_of edit.old.shape plane ≤ 8192 }
+    requires long { length buffer.old ≡ 65536 }
+    ensures read { IfOk result (ReadsPlane (H.world host.old) (H.world host.new) id plane edit.old edit.new) }
+    ensures refused { OnErr result (ReadsSome (H.world host.old) (H.world host.new) id) }
+    ensures faults { MatchResult result (λ _. (H.world host.new).faults ≡ (H.world host.old).faults)
+        (λ _. RaisesReads (H.world host.old).faults (H.world host.new).faults) }
+{
+    let (columns, rows) = edit.shape().plane_size(plane);
+    let most = PIECE as u32 / columns;
+    let mut row = 0;
+    while row < rows {
+        let count = most.min(rows - row);
+        let size = count as usize * columns as usize;
+        let piece = &mut buffer[..size];
+        if fill(host, id, piece)? < size {
+            return Ok(Ending::Short);
+        }
+        put_rows(edit, plane, row, count, piece);
+        row += count;
+    }
+    // It tells the proof that the plane has as many rows as before.
+    let _shape = edit.shape();
+    Ok(Ending::Whole)
+}
+
+/// Reads the planes of a picture.
+fn read_picture<H: Host>(
+    host: &mut H,
+    id: u32,
+    edit: &mut Edit,
+    buffer: &mut [u8],
+) -> Result<Ending, Failed>
+    requires id { IsTrue ((H.world host.old).inputs.is_open id) }
+    requires narrow { (p : ℕ) → p < planes_of edit.old.shape → columns_of edit.old.shape p ≤ 8192 }
+    requires long { length buffer.old ≡ 65536 }
+    ensures read { IfOk result (ReadsPicture (H.world host.old) (H.world host.new) id edit.old edit.new) }
+    ensures refused { OnErr result (ReadsSome (H.world host.old) (H.world host.new) id) }
+    ensures faults { MatchResult result (λ _. (H.world host.new).faults ≡ (H.world host.old).faults)
+        (λ _. RaisesReads (H.world host.old).faults (H.world host.new).faults) }
+{
+    let mut plane = 0;
+    while plane < edit.shape().planes() {
+        match read_plane(host, id, edit, plane, buffer)? {
+            Ending::Whole => plane += 1,
+            Ending::Short => return Ok(Ending::Short),
+        }
+    }
+    Ok(Ending::Whole)
+}
+
+/// Reads and drops at most so many bytes, and returns how many there were. They are fewer only where the input ends.
+fn skip<H: Host>(host: &mut H, id: u32, most: u64, buffer: &mut [u8]) -> Result<u64, Failed>
+    requires id { IsTrue ((H.world host.old).inputs.is_open id) }
+    requires long { length buffer.old ≡ 65536 }
+    ensures read { IfOk result (λ n. (got : List ℕ) × (length got ≡ n) × Reads (H.world host.old) (H.world host.new) id got) }
+    ensures within { IfOk result (λ n. n ≤ most) }
+    ensures end { IfOk result (λ n. n < most → ForSome ((H.world host.old).inputs.left id) (λ _. (H.world host.new).inputs.left id ≡ Some [])) }
+    ensures refused { OnErr result (ReadsSome (H.world host.old) (H.world host.new) id) }
+    ensures faults { MatchResult result (λ _. (H.world host.new).faults ≡ (H.world host.old).faults)
+        (λ _. RaisesReads (H.world host.old).faults (H.world host.new).faults) }
+{
+    let mut skipped = 0;
+    while skipped < most {
+        let size = PIECE.min(usize::try_from(most - skipped).unwrap_or(PIECE));
+        let n = fill(host, id, &mut buffer[..size])?;
+        skipped += n as u64;
+        if n < size {
+            break;
+        }
+    }
+    Ok(skipped)
+}
+
+/// Reads the first bytes of a frame's first line.
+fn read_mark<H: Host>(host: &mut H, id: u32, most: usize) -> Result<Mark, Failed>
+    requires id { IsTrue ((H.world host.old).inputs.is_open id) }
+    requires within { most ≤ 6 }
+    ensures mark { IfOk result (GivesMark (H.world host.old) (H.world host.new) id most) }
+    ensures refused { OnErr result (ReadsSome (H.world host.old) (H.world host.new) id) }
+    ensures faults { MatchResult result (λ _. (H.world host.new).faults ≡ (H.world host.old).faults)
+        (λ _. RaisesReads (H.world host.old).faults (H.world host.new).faults) }
+{
+    let mut mark = [0u8; 6];
+    let n = fill(host, id, &mut mark[..most])?;
+    if mark[..n] != FRAME_MARK[..n] {
+        return Ok(Mark::Differs);
+    }
+    if n < most {
+        return Ok(Mark::Ended(n));
+    }
+    Ok(Mark::Whole)
+}
+
+/// Finds how the input goes on where the limit leaves no room for a frame of the edit's shape.
+fn read_last<H: Host>(
+    host: &mut H,
+    id: u32,
+    room: u64,
+    _edit: &Edit,
+    buffer: &mut [u8],
+) -> Result<Found, Failed>
+    requires id { IsTrue ((H.world host.old).inputs.is_open id) }
+    requires long { length buffer.old ≡ 65536 }
+    requires room { room < frame_size _edit.now.shape }
+    ensures found { IfOk result (Finds (H.world host.old) (H.world host.new) id room _edit.now _edit.now) }
+    ensures no_frame { result ≢ Ok Found.Frame }
+    ensures refused { OnErr result (ReadsSome (H.world host.old) (H.world host.new) id) }
+    ensures faults { MatchResult result (λ _. (H.world host.new).faults ≡ (H.world host.old).faults)
+        (λ _. RaisesReads (H.world host.old).faults (H.world host.new).faults) }
+{
+    let most = FRAME_MARK
+        .len()
+        .min(usize::try_from(room).unwrap_or(FRAME_MARK.len()));
+    match read_mark(host, id, most)? {
+        Mark::Differs => return Ok(Found::Bad),
+        Mark::Ended(0) => return Ok(Found::End),
+        Mark::Ended(_) => return Ok(Found::Short),
+        Mark::Whole => {}
+    }
+    let rest = room - most as u64;
+    if skip(host, id, rest, buffer)? < rest {
+        return Ok(Found::Short);
+    }
+    if fill(host, id, &mut buffer[..1])? > 0 {
+        return Ok(Found::Past);
+    }
+    Ok(if room == 0 { Found::End } else { Found::Short })
+}
+
+/// Finds how the input goes on, and reads the frame where one is whole within the limit.
+fn read_frame<H: Host>(
+    host: &mut H,
+    id: u32,
+    room: u64,
+    edit: &mut Edit,
+    buffer: &mut [u8],
+) -> Result<Found, Failed>
+    requires id { IsTrue ((H.world host.old).inputs.is_open id) }
+    requires limits { IsWithinLimits edit.old.shape }
+    requires long { length buffer.old ≡ 65536 }
+    ensures found { IfOk result (Finds (H.world host.old) (H.world host.new) id room edit.old edit.new) }
+    ensures within { result ≡ Ok Found.Frame → frame_size edit.old.shape ≤ room }
+    ensures refused { OnErr result (ReadsSome (H.world host.old) (H.world host.new) id) }
+    ensures faults { MatchResult result (λ _. (H.world host.new).faults ≡ (H.world host.old).faults)
+        (λ _. RaisesReads (H.world host.old).faults (H.world host.new).faults) }
+{
+    if FRAME_MARK.len() as u64 + edit.shape().picture_bytes() > room {
+        return read_last(host, id, room, edit, buffer);
+    }
+    match read_mark(host, id, FRAME_MARK.len())? {
+        Mark::Differs => Ok(Found::Bad),
+        Mark::Ended(0) => Ok(Found::End),
+        Mark::Ended(_) => Ok(Found::Short),
+        Mark::Whole => match read_picture(host, id, edit, buffer)? {
+            Ending::Whole => Ok(Found::Frame),
+            Ending::Short => Ok(Found::Short),
+        },
+    }
+}
+
+impl Reader {
+    /// A reader of the input with this id, of which it takes at most `limit` bytes.
+    ///
+    /// # Errors
+    /// Out of memory.
+    pub fn new(alloc: Global, id: u32, limit: u64) -> Result<Reader, NoMemory>
+        ensures { IfOk result (λ r. r ≡ record { id = id; room = limit; frames = 0; stage = Stage.Fresh }) }
+    {
+        let buffer = vec![in alloc; 0u8; PIECE]?;
+        Ok(Reader {
+            id,
+            room: limit,
+            frames: 0,
+            stage: Stage::Fresh,
+            buffer,
+        })
+    }
+
+    /// Reads the header line, and returns the shape that it tells.
+    ///
+    /// # Errors
+    /// `BadHeader` where no header line of the form stands within the limit, `TooLong` where the line isn't over within
+    /// a limit of less than 1,024 bytes and more bytes follow, and `Host` exactly where the host's count of reads rose. The reader is spent then.
+    pub fn header<H: Host>(&mut self, _alloc: Global, host: &mut H) -> Result<Shape, HeadError>
+        requires id { IsTrue ((H.world host.old).inputs.is_open self.old.id) }
+        requires fresh { self.old.stage ≡ Stage.Fresh }
+        ensures heads { Heads (H.world host.old) (H.world host.new) self.old self.new result }
+        ensures faults { CountsHead result (H.world host.old).faults (H.world host.new).faults }
+    {
+        self.stage = Stage::Spent;
+        let size = match read_line(host, self.id, self.room, &mut self.buffer) {
+            Ok(Line::Whole(size)) => size,
+            Ok(Line::Unended) => return Err(HeadError::BadHeader),
+            Ok(Line::PastLimit) => return Err(HeadError::TooLong),
+            Err(Failed) => return Err(HeadError::Host),
+        };
+        match read_header(&self.buffer[..size]) {
+            Some(shape) => {
+                self.room -= size as u64;
+                self.stage = Stage::Headed(shape);
+                Ok(shape)
+            }
+            None => Err(HeadError::BadHeader),
+        }
+    }
+
+    /// Reads the next frame, in the order of the file: frame k has the pts k and the duration 1. None says that the input
+    /// ended after the frame before it.
+    ///
+    /// # Errors
+    /// `BadFrame` where what stands within the limit is no frame whatever follows, `Truncated` where the input ends
+    /// within a frame, `TooLong` where the limit comes before the frame's end and more bytes follow, and `Host` exactly
+    /// where the host's count of reads rose; the reader is spent then. After `NoMemory`, out of memory, it stands for
+    /// the same rest of its input, and the call can be made again.
+    pub fn next<H: Host>(
+        &mut self,
+        alloc: Global,
+        host: &mut H,
+        pools: &mut Pools,
+    ) -> Result<Option<Frame>, NextError>
+        requires id { IsTrue ((H.world host.old).inputs.is_open self.old.id) }
+        requires headed { IsHeaded self.old.stage }
+        ensures gives { (shape : Shape) → self.old.stage ≡ Stage.Headed shape → Gives shape (H.world host.old) (H.world host.new) self.old self.new result }
+        ensures faults { CountsNext result (H.world host.old).faults (H.world host.new).faults }
+    {
+        let Stage::Headed(shape) = self.stage else {
+            unreachable!()
+        };
+        let mut edit = match Edit::blank(alloc, pools, shape, 0) {
+            Ok(edit) => edit,
+            Err(NoMemory) => return Err(NextError::NoMemory),
+        };
+        self.stage = Stage::Spent;
+        match read_frame(host, self.id, self.room, &mut edit, &mut self.buffer) {
+            Ok(Found::Frame) => {
+                self.stage = Stage::Headed(edit.shape());
+                self.room -= FRAME_MARK.len() as u64 + shape.picture_bytes();
+                let pts = self.frames as i64;
+                self.frames += 1;
+                Ok(Some(edit.seal(pts, 1)))
+            }
+            Ok(Found::End) => {
+                self.stage = Stage::Headed(shape);
+                Ok(None)
+            }
+            Ok(Found::Bad) => Err(NextError::BadFrame { frame: self.frames }),
+            Ok(Found::Short) => Err(NextError::Truncated { place: self.frames }),
+            Ok(Found::Past) => Err(NextError::TooLong),
+            Err(Failed) => Err(NextError::Host),
+        }
+    }
+}
