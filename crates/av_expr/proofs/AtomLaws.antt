@@ -13,11 +13,11 @@ use Rattle.av_expr.specs.declared.vars.VarSet.{VarSet}
 use Rattle.av_expr.specs.declared.fraction.Fraction.{Fraction}
 use Rattle.av_expr.specs.declared.fault.ExprKind.{ExprKind}
 use Rattle.av_expr.specs.declared.fault.ExprKind.TheVariants.{Syntax}
-use Rattle.av_expr.proofs.EvalLemmas.{cons_parts}
 use Rattle.av_expr.proofs.FractionLemmas.{one_fraction}
 use Rattle.av_text.proofs.Places.{skip_same}
 use Rattle.av_text.proofs.PartLaws.{Lawful, one_or_other, wrapped}
 use Rattle.av_expr.proofs.PartLaws.{some_same}
+use Rattle.av_base.proofs.Lists.{cons_parts}
 
 no_run : (p : ℕ → Bool) {text : List ℕ} → Stops p text → IsRun p text [] text
 no_run p stops = record { text_is = refl; each = tt; whole = stops }

@@ -1,15 +1,11 @@
 -- Numbers and names.
-use Rattle.std.proofs.Common.{◌≡◌, ◌<◌, ◌≤◌, ◌+◌, ◌-◌, ◌*◌, ◌^◌, ℕ, zero, suc, Bool, true, false, List, [], ◌∷◌, take, drop, length, get_or, refl, sym, ◌∙◌, ap, subst, arith, inl, inr, eq-eqb, ◌==◌}
-use Rattle.std.specs.Char.{digit_value}
-use Rattle.std.specs.Int.{IsInRange}
-use Rattle.std.specs.List.{AllByRecursion, slice_range}
+use Rattle.std.proofs.Common.{◌≡◌, ◌<◌, ◌≤◌, ◌+◌, ◌-◌, ◌^◌, ℕ, zero, suc, Bool, true, false, List, [], ◌∷◌, take, drop, length, refl, sym, ◌∙◌, ap, subst, arith, inl, inr, eq-eqb, ◌==◌}
+use Rattle.std.specs.List.{slice_range}
 use Rattle.std.specs.Str.Parse.{AllDigits, digits_value}
 use Rattle.std.proofs.Math.Nat.{pow-le-pow_right}
 use Rattle.std.proofs.Math.Seq.{take-append_seam}
-use Rattle.std.proofs.lemmas.Bool.{ltb-true}
-use Rattle.std.proofs.lemmas.Int.Digits.{digits_value_more, digits_value-lt}
+use Rattle.std.proofs.lemmas.Int.Digits.{digits_value-lt}
 use Rattle.std.proofs.lemmas.List.{length-append, length-drop, length-take}
-use Rattle.std.proofs.lemmas.Str.{digit_value_digit}
 use Rattle.av_text.specs.Classes.{is_digit, Stops, IsRun}
 use Rattle.av_text.specs.Parts.{Lacks}
 use Rattle.av_expr.specs.Grammar.{IsNineteenth, NoDigits, NoNumber}
@@ -20,10 +16,6 @@ use Rattle.av_text.proofs.Places.{later_rest}
 
 -- ---- digits
 
-pub digits_of_run : (ds : List ℕ) → AllByRecursion (λ c. is_digit c ≡ true) ds → AllDigits 10 ds
-digits_of_run [] each = tt
-digits_of_run (c ∷ ds) each = (ltb-true (digit_value c) 10 each.0, digits_of_run ds each.1)
-
 pub digits_front : (ds : List ℕ) (i : ℕ) → AllDigits 10 ds → AllDigits 10 (take i ds)
 digits_front [] zero all = tt
 digits_front [] (suc i) all = tt
@@ -33,7 +25,7 @@ digits_front (c ∷ ds) (suc i) all = (all.0, digits_front ds i all.1)
 pub number_below : (ds : List ℕ) → AllDigits 10 ds → length ds ≤ 18 → digits_value 10 ds < 10 ^ 18
 number_below ds all few = let below = digits_value-lt 10 ds all in let more = pow-le-pow_right {n = 10} (omega arith) few in omega arith
 
--- the digits that stand at a place
+-- the digits at a place
 pub run_here : (p : ℕ → Bool) (text : List ℕ) (place : ℕ) (front rest : List ℕ) → place ≤ length text → IsRun p (drop place text) front rest
     → IsRun p (drop place text) (slice_range text place (length text - length rest)) (drop (length text - length rest) text)
 run_here p text place front rest within run =
@@ -46,14 +38,7 @@ run_here p text place front rest within run =
 pub front_below : (ds : List ℕ) (i : ℕ) → AllDigits 10 ds → length ds ≤ 18 → digits_value 10 (take i ds) < 10 ^ 18
 front_below ds i all few = number_below (take i ds) (digits_front ds i all) (let short = length-take i ds in omega arith)
 
-pub value_more : (text : List ℕ) (i value : ℕ) → i < length text → IsInRange 48 57 (get_or text i 0) → value ≡ digits_value 10 (take i text)
-    → value * 10 + (get_or text i 0 - 48) ≡ digits_value 10 (take (i + 1) text)
-value_more text i value h r e =
-    let more = digits_value_more 10 text i h in
-    let same = digit_value_digit (get_or text i 0) r in
-    omega arith
-
--- where the 19th digit stands
+-- the place of the 19th digit
 pub nineteenth : (text : List ℕ) (place : ℕ) (digits rest : List ℕ) → place ≤ length text → IsRun is_digit (drop place text) digits rest → 18 < length digits
     → FailsAt IsNineteenth text place (record { at = place + 18; kind = Syntax })
 nineteenth text place digits rest within run many =
@@ -72,7 +57,7 @@ some_run p text (x ∷ front) rest behind c run e is = omega arith
 pub name_stops : {text : List ℕ} → BeginsName text → Stops is_digit text
 name_stops {text} h = subst (Stops is_digit) (sym h.2) h.4
 
--- the number begins with a digit, where no point stands behind its digits
+-- the number begins with a digit if no point is after its digits
 pub some_digits : {text front rest : List ℕ} → BeginsNumber text → IsRun is_digit text front rest → Lacks 46 rest → 0 < length front
 some_digits {text} {front} {rest} (c, behind, e, inl digit) run lacks = some_run is_digit text front rest behind c run e digit
 some_digits {text} {front} {rest} (c, behind, e, inr point) run lacks = by front rest run lacks where
@@ -85,7 +70,7 @@ some_digits {text} {front} {rest} (c, behind, e, inr point) run lacks = by front
 pub no_digit : (text : List ℕ) (place end : ℕ) → place ≤ length text → Stops is_digit (drop end text) → end ≡ place → FailsAt NoDigits text place (record { at = place; kind = Syntax })
 no_digit text place end within stops same = let left = length-drop place text in (drop place text, inl (rw same at stops, refl, refl), omega arith)
 
--- behind the digits and the point
+-- after the digits and the point
 pub part_fault : (text : List ℕ) (place end : ℕ) (digits : List ℕ) (f : ExprFault) → IsRun is_digit (drop place text) digits (drop end text) → length digits ≤ 18 → drop end text ≡ 46 ∷ drop (end + 1) text
     → FailsAt NoDigits text (end + 1) f → FailsAt NoNumber text place f
 part_fault text place end digits f run few mark h = (h.0, inr (digits, drop (end + 1) text, rw mark at run, few, h.1), h.2)

@@ -1,5 +1,5 @@
 -- Evaluation of a tree by its list of nodes.
-use Rattle.std.proofs.Common.{◌≡◌, ◌≤◌, ◌+◌, suc, List, [], ◌∷◌, ◌++◌, length, get_or, drop, refl, sym, ap, subst, arith, inl, inr, append_assoc, ◌⊎◌}
+use Rattle.std.proofs.Common.{◌≡◌, ◌≤◌, ◌+◌, suc, List, [], ◌∷◌, ◌++◌, length, refl, sym, ap, subst, arith, inl, inr, append_assoc, ◌⊎◌}
 use Rattle.std.specs.List.{AllByRecursion}
 use Rattle.std.proofs.lemmas.List.{append-nil}
 use Rattle.av_expr.specs.Fractions.{IsLowest}
@@ -12,9 +12,7 @@ use Rattle.av_expr.specs.declared.expr.Node.{Node}
 use Rattle.av_expr.specs.declared.expr.Node.TheVariants as node
 use Rattle.av_expr.specs.declared.fault.NoValue.{NoValue}
 use Rattle.av_expr.proofs.FractionLemmas.{reduced_lowest, negated_lowest}
-
-pub cons_parts : {X : Type 0} {x y : X} {xs ys : List X} → x ∷ xs ≡ y ∷ ys → (x ≡ y) × (xs ≡ ys)
-cons_parts {X} {x} e = (ap (λ (l : List X). get_or l 0 x) e, ap (drop 1) e)
+use Rattle.av_base.proofs.Lists.{cons_parts}
 
 -- ---- values are in lowest terms
 
@@ -61,32 +59,32 @@ builds_whole t fits lowest = rw append-nil at (builds_tree t [] [] t (omega arit
 -- ---- rows of values
 
 -- each tree has its value in the row
-abbrev pub Stands : List Fraction → List Tree → List Fraction → Type 0
-Stands values [] [] = Unit {0}
-Stands values [] (v ∷ row) = ⊥
-Stands values (t ∷ trees) [] = ⊥
-Stands values (t ∷ trees) (v ∷ row) = HasLowest t × IsValue values t v × Stands values trees row
+abbrev pub AreWorth : List Fraction → List Tree → List Fraction → Type 0
+AreWorth values [] [] = Unit {0}
+AreWorth values [] (v ∷ row) = ⊥
+AreWorth values (t ∷ trees) [] = ⊥
+AreWorth values (t ∷ trees) (v ∷ row) = HasLowest t × IsValue values t v × AreWorth values trees row
 
-pub stands_length : (values : List Fraction) (trees : List Tree) (row : List Fraction) → Stands values trees row → length trees ≡ length row
-stands_length values [] [] h = refl
-stands_length values [] (v ∷ row) h = absurd h
-stands_length values (t ∷ trees) [] h = absurd h
-stands_length values (t ∷ trees) (v ∷ row) h = ap suc (stands_length values trees row h.2)
+pub worth_length : (values : List Fraction) (trees : List Tree) (row : List Fraction) → AreWorth values trees row → length trees ≡ length row
+worth_length values [] [] h = refl
+worth_length values [] (v ∷ row) h = absurd h
+worth_length values (t ∷ trees) [] h = absurd h
+worth_length values (t ∷ trees) (v ∷ row) h = ap suc (worth_length values trees row h.2)
 
-pub stands_lowest : (values : List Fraction) (trees : List Tree) (row : List Fraction) → AreLowest values → Stands values trees row → AllByRecursion IsLowest row
-stands_lowest values [] [] all h = tt
-stands_lowest values [] (v ∷ row) all h = absurd h
-stands_lowest values (t ∷ trees) [] all h = absurd h
-stands_lowest values (t ∷ trees) (v ∷ row) all h = (value_lowest values t v all h.0 h.1, stands_lowest values trees row all h.2)
+pub worth_lowest : (values : List Fraction) (trees : List Tree) (row : List Fraction) → AreLowest values → AreWorth values trees row → AllByRecursion IsLowest row
+worth_lowest values [] [] all h = tt
+worth_lowest values [] (v ∷ row) all h = absurd h
+worth_lowest values (t ∷ trees) [] all h = absurd h
+worth_lowest values (t ∷ trees) (v ∷ row) all h = (value_lowest values t v all h.0 h.1, worth_lowest values trees row all h.2)
 
 -- the first of a row of values, and the rest, with the first of a row of trees
-stands_first : (values : List Fraction) (trees : List Tree) (row rest : List Fraction) (a : Fraction) → Stands values trees row → row ≡ a ∷ rest
-    → (t : Tree) × (others : List Tree) × (trees ≡ t ∷ others) × HasLowest t × IsValue values t a × Stands values others rest
-stands_first values [] [] rest a h same = absurd (omega (arith, ap length same))
-stands_first values [] (v ∷ row) rest a h same = absurd h
-stands_first values (t ∷ trees) [] rest a h same = absurd h
-stands_first values (t ∷ trees) (v ∷ row) rest a h same =
-    let parts = cons_parts same in (t, trees, refl, h.0, subst (IsValue values t) parts.0 h.1, subst (Stands values trees) parts.1 h.2)
+worth_first : (values : List Fraction) (trees : List Tree) (row rest : List Fraction) (a : Fraction) → AreWorth values trees row → row ≡ a ∷ rest
+    → (t : Tree) × (others : List Tree) × (trees ≡ t ∷ others) × HasLowest t × IsValue values t a × AreWorth values others rest
+worth_first values [] [] rest a h same = absurd (omega (arith, ap length same))
+worth_first values [] (v ∷ row) rest a h same = absurd h
+worth_first values (t ∷ trees) [] rest a h same = absurd h
+worth_first values (t ∷ trees) (v ∷ row) rest a h same =
+    let parts = cons_parts same in (t, trees, refl, h.0, subst (IsValue values t) parts.0 h.1, subst (AreWorth values trees) parts.1 h.2)
 
 -- ---- a row in which a tree has no value
 
@@ -94,16 +92,16 @@ abbrev Valued : List Fraction → List Tree → Type 0
 Valued values [] = Unit {0}
 Valued values (t ∷ trees) = ((v : Fraction) × IsValue values t v) × Valued values trees
 
--- one tree has no value, and those before it, which stand behind it in the row, have
+-- one tree has no value, and those before it, which are after it in the row, have
 abbrev Fails : List Fraction → NoValue → List Tree → Type 0
 Fails values reason [] = ⊥
 Fails values reason (t ∷ trees) = (HasNone values t reason × Valued values trees) ⊎ Fails values reason trees
 
-stands_valued : (values : List Fraction) (trees : List Tree) (row : List Fraction) → Stands values trees row → Valued values trees
-stands_valued values [] [] h = tt
-stands_valued values [] (v ∷ row) h = absurd h
-stands_valued values (t ∷ trees) [] h = absurd h
-stands_valued values (t ∷ trees) (v ∷ row) h = ((v, h.1), stands_valued values trees row h.2)
+worth_valued : (values : List Fraction) (trees : List Tree) (row : List Fraction) → AreWorth values trees row → Valued values trees
+worth_valued values [] [] h = tt
+worth_valued values [] (v ∷ row) h = absurd h
+worth_valued values (t ∷ trees) [] h = absurd h
+worth_valued values (t ∷ trees) (v ∷ row) h = ((v, h.1), worth_valued values trees row h.2)
 
 fails_joined : (values : List Fraction) (reason : NoValue) (n : Node) (trees : List Tree) → HasRoom n (length trees) → Fails values reason trees → Fails values reason (joined n trees)
 fails_joined values reason (node.Number f) trees room h = inr h
@@ -125,17 +123,17 @@ fails_whole values reason [] trees goal builds h = elim (subst (Fails values rea
 ]
 fails_whole values reason (n ∷ ns) trees goal builds h = fails_whole values reason ns (joined n trees) goal builds.2 (fails_joined values reason n trees builds.0 h)
 
-fault_fails : (values : List Fraction) (reason : NoValue) (n : Node) (trees : List Tree) (row : List Fraction) → Stands values trees row → IsNodeFault values n row reason → Fails values reason (joined n trees)
+fault_fails : (values : List Fraction) (reason : NoValue) (n : Node) (trees : List Tree) (row : List Fraction) → AreWorth values trees row → IsNodeFault values n row reason → Fails values reason (joined n trees)
 fault_fails values reason (node.Number f) trees row h fault = absurd fault
 fault_fails values reason (node.Variable x) trees row h fault = absurd fault
 fault_fails values reason node.Negation trees row h fault =
-    let first = stands_first values trees row fault.1 fault.0 h fault.2 in
-    rw first.2 (inl (inr (fault.0, first.4, fault.3), stands_valued values first.1 fault.1 first.5))
+    let first = worth_first values trees row fault.1 fault.0 h fault.2 in
+    rw first.2 (inl (inr (fault.0, first.4, fault.3), worth_valued values first.1 fault.1 first.5))
 fault_fails values reason (node.Binary op) trees row h fault =
-    let first = stands_first values trees row (fault.0 ∷ fault.2) fault.1 h fault.3 in
-    let second = stands_first values first.1 (fault.0 ∷ fault.2) fault.2 fault.0 first.5 refl in
-    rw (first.2, second.2) (inl (inr (inr (fault.0, fault.1, second.4, first.4, fault.4)), stands_valued values second.1 fault.2 second.5))
+    let first = worth_first values trees row (fault.0 ∷ fault.2) fault.1 h fault.3 in
+    let second = worth_first values first.1 (fault.0 ∷ fault.2) fault.2 fault.0 first.5 refl in
+    rw (first.2, second.2) (inl (inr (inr (fault.0, fault.1, second.4, first.4, fault.4)), worth_valued values second.1 fault.2 second.5))
 
 pub fault_whole : (values : List Fraction) (reason : NoValue) (n : Node) (ns : List Node) (trees : List Tree) (row : List Fraction) (goal : Tree)
-    → Stands values trees row → Builds trees (n ∷ ns) goal → IsNodeFault values n row reason → HasNone values goal reason
+    → AreWorth values trees row → Builds trees (n ∷ ns) goal → IsNodeFault values n row reason → HasNone values goal reason
 fault_whole values reason n ns trees row goal h builds fault = fails_whole values reason ns (joined n trees) goal builds.2 (fault_fails values reason n trees row h fault)

@@ -5,16 +5,17 @@ use mathlib.Core.Bool.{not, beq}
 use Rattle.std.proofs.lemmas.Bool.{le-ltb}
 use Rattle.std.specs.Int.{IsGcd, w128}
 use Rattle.std.proofs.Math.IntN.{*ℤ-zero, zero-*ℤ}
-use Rattle.std.proofs.Math.Nat.{div-mul_cancel, eq_of_mul-eq-mul_right, div-add-mod', mod-lt, zero-div, dvd-mul_left, mul-dvd-mul_right, dvd_of_mul-dvd-mul_right, mul-le-mul_left}
+use Rattle.std.proofs.Math.Nat.{div-mul_cancel, eq_of_mul-eq-mul_right, div-add-mod', mod-lt, zero-div, mul-le-mul_left, one-dvd}
 use borrow.Author.Differences.{up, down, same_in}
 use Rattle.std.proofs.lemmas.Int.{ints, unsigned_abs-mul, fits_signed_from_abs}
 use Rattle.std.proofs.lemmas.Nat.Gcd.{same_from_IsGcd, dvd_refl}
-use Prim.Native.Nat.{◌∣◌}
 use Rattle.av_base.specs.Numbers.{signed_of}
 use Rattle.av_expr.specs.Fractions.{Fits, AreFitting, IsLowest, IsReduced, IsCut, IsNegated, DividesByZero, below}
 use Rattle.av_expr.specs.declared.fraction.Operator.{Operator}
 use Rattle.av_expr.specs.declared.fraction.Operator.TheVariants.{Plus, Minus, Times, Over}
 use Rattle.av_expr.specs.declared.fraction.Fraction.{Fraction}
+use Rattle.av_base.proofs.Arithmetic.{abs_neg, negative_times, some_factor}
+use Rattle.av_base.proofs.Ratios.{coprime_rest}
 
 -- ---- numbers by sign and size
 
@@ -33,17 +34,13 @@ both_negative zero b = omega (arith, ints)
 both_negative (suc a) zero = omega (arith, ints)
 both_negative (suc a) (suc b) = omega (arith, ints)
 
-first_negative : (a b : ℕ) → neg_ℤ (pos a) *ℤ pos b ≡ neg_ℤ (pos (a * b))
-first_negative zero b = omega (arith, ints)
-first_negative (suc a) b = omega (arith, ints)
-
 second_negative : (a b : ℕ) → pos a *ℤ neg_ℤ (pos b) ≡ neg_ℤ (pos (a * b))
 second_negative a zero = omega (arith, ints)
 second_negative a (suc b) = omega (arith, ints)
 
 pub signed_mul : (s t : Bool) (a b : ℕ) → signed_of (not (beq s t)) a *ℤ signed_of t b ≡ signed_of s (a * b)
 signed_mul true true a b = second_negative a b
-signed_mul true false a b = first_negative a b
+signed_mul true false a b = negative_times a b
 signed_mul false true a b = both_negative a b
 signed_mul false false a b = omega (arith, ints)
 
@@ -67,10 +64,6 @@ some_size (pos zero) h = absurd (h refl)
 some_size (pos (suc n)) h = omega arith
 some_size (negsuc n) h = omega arith
 
-some_part : (q g n : ℕ) → q * g ≡ n → 0 < n → 0 < q
-some_part zero g n e some = absurd (omega arith)
-some_part (suc q) g n e some = omega arith
-
 pub divided_is : (num den : ℤ) (g : ℕ) → den ≢ pos 0 → IsGcd (unsigned_abs num) (unsigned_abs den) g → IsReduced num den (divided num den g)
 divided_is num den g some h =
     let t = int_lt den (pos 0) in
@@ -81,7 +74,7 @@ divided_is num den g some h =
       greatest = subst (λ (n : ℕ). IsGcd (unsigned_abs num) (unsigned_abs den) n) (sym (abs_signed t g)) h;
       num_is = part_mul num t (unsigned_abs num / g) g above;
       den_is = same_signs t (unsigned_abs den / g) g ∙ ap (signed_of t) below ∙ sym (signed_abs den);
-      positive = (let more = some_part (unsigned_abs den / g) g (unsigned_abs den) below (some_size den some) in omega (arith, ints));
+      positive = (let more = some_factor (unsigned_abs den / g) g (unsigned_abs den) below (some_size den some) in omega (arith, ints));
       defined = some;
     }
 
@@ -168,10 +161,6 @@ sized_den {num} {den} {x} {y} {a} {b} {g} s none =
 quotient : (a k : ℕ) → 0 < k → (a / k * k ≤ a) × (a < (a / k + 1) * k)
 quotient a k some = let split = div-add-mod' a k in let small = mod-lt a some in omega arith
 
-abs_neg : (n : ℕ) → unsigned_abs (neg_ℤ (pos n)) ≡ n
-abs_neg zero = refl
-abs_neg (suc n) = refl
-
 cut_by : (z : ℤ) (k : ℕ) → 0 < k → IsCut (record { num = z; den = pos k }) (int_div z (pos k))
 cut_by (pos a) k some = let q = quotient a k some in record { within = q.0; next = q.1; up = λ p. omega (arith, ints); down = λ p. let h : a ≤ 0 = omega (arith, ints) in omega (arith, ints, zero_div a k h) } where
   zero_div : (a k : ℕ) → a ≤ 0 → a / k ≡ 0
@@ -179,7 +168,7 @@ cut_by (pos a) k some = let q = quotient a k some in record { within = q.0; next
   zero_div (suc a) k h = absurd (omega arith)
 cut_by (negsuc a) k some =
     let q = quotient (suc a) k some in
-    let e = abs_neg (suc a / k) in
+    let e = abs_neg (pos (suc a / k)) in
     record { within = rw e q.0; next = rw e q.1; up = λ p. absurd (omega (arith, ints)); down = λ p. omega (arith, ints) }
 
 pub cut_is : (f : Fraction) → pos 0 <ℤ f.den → IsCut f (int_div f.num f.den)
@@ -203,21 +192,8 @@ below_some Over a b p q d = product_some a.den b.num (positive_some a.den p) (λ
 
 -- ---- what is in lowest terms
 
-one_dvd : (n : ℕ) → 1 ∣ n
-one_dvd n = subst (λ (m : ℕ). 1 ∣ m) (let e : n * 1 ≡ n = omega arith in e) (dvd-mul_left 1 n)
-
--- what is left has no common divisor
-coprime_rest : (x y g : ℕ) → 0 < g → IsGcd (x * g) (y * g) g → IsGcd x y 1
-coprime_rest x y g some h = (
-  one_dvd x,
-  one_dvd y,
-  λ d dx dy. dvd_of_mul-dvd-mul_right {k = g} d {n = 1} some (subst (λ (n : ℕ). d * g ∣ n) one (h.2 (d * g) (mul-dvd-mul_right d dx g) (mul-dvd-mul_right d dy g))),
-) where
-  one : g ≡ 1 * g
-  one = omega arith
-
 pub over_one : (z : ℤ) → IsLowest (record { num = z; den = pos 1 })
-over_one z = record { positive = omega (arith, ints); coprime = (one_dvd (unsigned_abs z), dvd_refl 1, λ d a b. b) }
+over_one z = record { positive = omega (arith, ints); coprime = (one-dvd (unsigned_abs z), dvd_refl 1, λ d a b. b) }
 
 pub reduced_lowest : {num den : ℤ} {f : Fraction} → IsReduced num den f → IsLowest f
 reduced_lowest {num} {den} {f} h = record {
@@ -226,15 +202,10 @@ reduced_lowest {num} {den} {f} h = record {
       (rw (sym (ap unsigned_abs h.num_is) ∙ unsigned_abs-mul f.num h.divisor, sym (ap unsigned_abs h.den_is) ∙ unsigned_abs-mul f.den h.divisor) at h.greatest);
 }
 
-abs_negated : (z : ℤ) → unsigned_abs (neg_ℤ z) ≡ unsigned_abs z
-abs_negated (pos zero) = refl
-abs_negated (pos (suc n)) = refl
-abs_negated (negsuc n) = refl
-
 pub negated_lowest : {a f : Fraction} → IsNegated a f → IsLowest a → IsLowest f
 negated_lowest {a} {f} h l = record {
   positive = rw h.den_is l.positive;
-  coprime = rw (h.num_is, h.den_is, abs_negated a.num) l.coprime;
+  coprime = rw (h.num_is, h.den_is, abs_neg a.num) l.coprime;
 }
 
 -- ---- small parts

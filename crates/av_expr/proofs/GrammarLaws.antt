@@ -9,11 +9,11 @@ use Rattle.av_expr.specs.Exprs.{IsExpr, IsExprFault, IsBehind}
 use Rattle.av_expr.specs.Reading.{BeginsNumber, BeginsName}
 use Rattle.av_expr.specs.declared.vars.VarSet.{VarSet}
 use Rattle.av_expr.specs.declared.fault.ExprKind.{ExprKind}
-use Rattle.av_expr.proofs.EvalLemmas.{cons_parts}
 use Rattle.av_text.proofs.Places.{skip_same}
 use Rattle.av_text.proofs.PartLaws.{Lawful, one_or_other}
 use Rattle.av_expr.proofs.PartLaws.{mark_same, mark_lacks, chain_law}
 use Rattle.av_expr.proofs.AtomLaws.{atom_law, number_begins, no_number_begins, name_begins, digit_names}
+use Rattle.av_base.proofs.Lists.{cons_parts}
 
 -- ---- sums
 
@@ -198,7 +198,7 @@ whole_law allowed = sum_law (unary_law allowed 64)
 pub one_tree : (allowed : VarSet) (text : List ℕ) (a b : Tree) → IsExpr allowed text a → IsExpr allowed text b → a ≡ b
 one_tree allowed text a b p q = ((whole_law allowed).same (rw (skip_same p.skips q.skips) at p.is_sum) q.is_sum).0
 
--- no sum stands there, or something stands behind it
+-- there is no sum, or something is after it
 abbrev WholeFails : VarSet → List ℕ → ExprKind → List ℕ → Type 0
 WholeFails allowed = Either (IsSum (IsUnary allowed 64)) (NoSum (IsUnary allowed 64) (NoUnary allowed 64)) IsBehind
 

@@ -6,7 +6,6 @@ pub mod ValueLaws
 mod VarLemmas
 mod AtomLemmas
 mod MarkLemmas
-mod AnswerLemmas
 mod ReadLemmas
 mod PartLaws
 mod AtomLaws

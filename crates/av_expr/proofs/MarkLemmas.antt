@@ -13,7 +13,7 @@ use Rattle.av_expr.specs.declared.fault.ExprKind.TheVariants.{Syntax}
 use Rattle.av_expr.specs.declared.fraction.Operator.{Operator}
 use Rattle.av_expr.specs.declared.fraction.Operator.TheVariants.{Plus, Minus, Times, Over}
 use Rattle.av_text.proofs.Places.{byte_at}
-use Rattle.av_expr.proofs.EvalLemmas.{cons_parts}
+use Rattle.av_base.proofs.Lists.{cons_parts}
 
 -- the byte at a place was read
 pub record IsByteAt (text bytes : List ℕ) (place byte : ℕ) : Type 0 where

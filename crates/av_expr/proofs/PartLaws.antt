@@ -6,8 +6,8 @@ use Rattle.av_text.proofs.PartLaws.{Lawful}
 use Rattle.av_expr.specs.Parts.{IsMark, IsOperator, NoOperator, AreLinks, LinksFail, grouped, IsChain, NoChain}
 use Rattle.av_expr.specs.declared.fraction.Operator.{Operator}
 use Rattle.av_expr.specs.declared.fault.ExprKind.{ExprKind}
-use Rattle.av_expr.proofs.EvalLemmas.{cons_parts}
 use Rattle.av_text.proofs.Places.{skip_same}
+use Rattle.av_base.proofs.Lists.{cons_parts}
 
 -- ---- marks
 

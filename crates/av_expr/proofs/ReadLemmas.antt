@@ -23,7 +23,7 @@ mark_there mark text place next at skips = (drop (place + 1) text, at.0, skips)
 
 -- ---- rows of operands
 
--- operands were read up to a place: whatever stands behind it completes them
+-- operands were read up to a place: whatever is after it completes them
 pub record Chained (ops : ℕ → Option Operator) (P : Part Tree) (F : NoPart ExprKind) (text : List ℕ) (start : ℕ) (before after : List Node) (place : ℕ) : Type 0 where
   pub tree : Tree
   pub added : after ≡ before ++ postfix tree
@@ -31,7 +31,7 @@ pub record Chained (ops : ℕ → Option Operator) (P : Part Tree) (F : NoPart E
   pub reads : (links : List (Operator × Tree)) (rest : List ℕ) → AreLinks ops P (drop place text) links rest → IsChain ops P (drop start text) (grouped tree links) rest
   pub fails : (kind : ExprKind) (bad : List ℕ) → NoLinks ops P F (drop place text) kind bad → NoChain ops P F (drop start text) kind bad
 
--- an operator stands at a place, and what must be its operand behind it
+-- an operator is at a place, and what must be its operand after it
 operator_there : (ops : ℕ → Option Operator) (text : List ℕ) (place operand : ℕ) (op : Operator) → (mark : ℕ) × (ops mark ≡ Some op) × StandsAt mark text place → Skips (drop (place + 1) text) (drop operand text)
     → IsOperator ops (drop place text) op (drop operand text)
 operator_there ops text place operand op at skips = (at.0, at.1, (drop (place + 1) text, at.2.0, skips))

@@ -6,11 +6,11 @@ use Rattle.std.proofs.Math.Nat.{one-le-pow}
 use Rattle.std.proofs.lemmas.Bool.{cases_lt, cases_eq}
 use Rattle.std.proofs.lemmas.Int.{ints}
 use Rattle.std.proofs.lemmas.List.{length-append}
-use Rattle.av_text.specs.Classes.{is_digit, is_name, is_white, Stops, IsRun}
-use Rattle.av_text.proofs.TotalLemmas.{span}
+use Rattle.av_text.specs.Classes.{is_digit, is_name, Stops, IsRun}
+use Rattle.av_text.proofs.TotalLemmas.{span, skip_of, skip_length, begins_or}
 use Rattle.av_expr.specs.Vars.{order, variable_named}
 use Rattle.av_expr.specs.Trees.{Tree, Number, Variable, Negation}
-use Rattle.av_text.specs.Parts.{Skips, Lacks}
+use Rattle.av_text.specs.Parts.{Skips}
 use Rattle.av_expr.specs.Parts.{IsMark, IsOperator, NoOperator, AreLinks, NoLinks, grouped, IsChain, NoChain}
 use Rattle.av_expr.specs.Grammar.{IsNumber, NoNumber, IsAllowed, IsVariable, NoVariable, IsAtom, NoAtom, opens, additive, multiplicative, IsSum, NoSum, IsProduct, NoProduct, IsUnary, NoUnary}
 use Rattle.av_expr.specs.Exprs.{IsExpr, IsExprFault}
@@ -31,12 +31,6 @@ use Rattle.av_expr.proofs.GrammarLaws.{opens_which}
 abbrev Found : {X : Type 0} → (List ℕ → X → List ℕ → Type 0) → (List ℕ → ExprKind → List ℕ → Type 0) → List ℕ → Type 0
 Found {X} P F text = ((x : X) × (rest : List ℕ) × P text x rest × (length rest ≤ length text)) ⊎ ((k : ExprKind) × (bad : List ℕ) × F text k bad)
 
-skip_of : (text : List ℕ) → (rest : List ℕ) × Skips text rest
-skip_of text = let s = span is_white text in (s.1, (s.0, s.2))
-
-skip_length : {text rest : List ℕ} → Skips text rest → length rest ≤ length text
-skip_length {text} {rest} s = omega (arith, ap length s.1.text_is, length-append s.0 rest)
-
 run_length : {p : ℕ → Bool} {text front rest : List ℕ} → IsRun p text front rest → length rest ≤ length text
 run_length {p} {text} {front} {rest} run = omega (arith, ap length run.text_is, length-append front rest)
 
@@ -46,13 +40,6 @@ mark_length {m} {text} {rest} h = let short = skip_length h.2 in omega (arith, a
 -- what a mark begins
 mark_of : (m : ℕ) (behind : List ℕ) → (rest : List ℕ) × IsMark m (m ∷ behind) rest
 mark_of m behind = let s = skip_of behind in (s.0, (behind, refl, s.1))
-
-mark_or : (m : ℕ) (text : List ℕ) → ((behind : List ℕ) × (text ≡ m ∷ behind)) ⊎ Lacks m text
-mark_or m [] = inr tt
-mark_or m (c ∷ behind) = by (c == m) refl where
-  by : (t : Bool) → (c == m) ≡ t → ((rest : List ℕ) × (c ∷ behind ≡ m ∷ rest)) ⊎ Lacks m (c ∷ behind)
-  by true e = inl (behind, ap (λ (x : ℕ). x ∷ behind) (eqb-true c m e))
-  by false e = inr e
 
 -- ---- numbers
 
@@ -81,7 +68,7 @@ part_total text front after run few = by part.0 part.1 part.2 where
   ]
 
 digits_total : (text front rest : List ℕ) → BeginsNumber text → IsRun is_digit text front rest → length front ≤ 18 → Found IsNumber NoNumber text
-digits_total text front rest b run few = elim (mark_or 46 rest) [
+digits_total text front rest b run few = elim (begins_or 46 rest) [
   | inl point ↦ part_total text front point.0 (subst (IsRun is_digit text front) point.1 run) few
   | inr lacks ↦ (let s = skip_of rest in let f : Fraction = record { num = pos (digits_value 10 front); den = pos 1 } in
       inl (f, s.0, inl (front, rest, run, some_digits b run lacks, few, lacks, refl, s.1), (let a = skip_length s.1 in let c = run_length run in omega arith)))
@@ -220,7 +207,7 @@ group_total : (allowed : VarSet) (n : ℕ) → ((t : List ℕ) → Found (IsUnar
 unfolding IsUnary NoUnary
 group_total allowed n total text inside m = let less = mark_length m in elim (sum_total (IsUnary allowed n) (NoUnary allowed n) total inside) [
   | inr bad ↦ inr (bad.0, bad.1, inr (inr (inside, m, inl bad.2)))
-  | inl t ↦ elim (mark_or 41 t.1) [
+  | inl t ↦ elim (begins_or 41 t.1) [
     | inr lacks ↦ inr (Syntax, t.1, inr (inr (inside, m, inr (t.0, t.1, t.2, (refl, refl, lacks)))))
     | inl mark ↦ (let s = skip_of mark.0 in
         inl (t.0, s.0, inr (inr (inside, t.1, m, t.2, (mark.0, mark.1, s.1))), (let a = t.3 in let b = skip_length s.1 in omega (arith, ap length mark.1))))

@@ -85,7 +85,7 @@ reason_same values (Binary op a b) r s (inr (inr p)) (inr (inl q)) = absurd (val
 reason_same values (Binary op a b) r s (inr (inr p)) (inr (inr q)) =
     step_reason op p.0 p.1 r s p.4 (subst (λ (x : Fraction). NoStep op x p.1 s) (value_same values a q.0 p.0 q.2 p.2) (subst (λ (y : Fraction). NoStep op q.0 y s) (value_same values b q.1 p.1 q.3 p.3) q.4))
 
--- ---- what a call answers
+-- ---- what a call returns
 
 pub only_value : (values : List Fraction) (t : Tree) (r : Result Fraction NoValue) → IfOk r (IsValue values t) → IfErr r (HasNone values t) → (v : Fraction) → IsValue values t v → r ≡ Ok v
 only_value values t (Ok w) value none v h = ap Ok (value_same values t w v value h)

@@ -5,7 +5,7 @@ use Rattle.av_expr.specs.Fractions.{IsLowest, zero_fraction}
 use Rattle.av_expr.specs.declared.fraction.Fraction.{Fraction}
 use Rattle.av_expr.proofs.FractionLemmas.{over_one}
 
--- each of these is in lowest terms, and so is what stands for a missing one
+-- each of these is in lowest terms, and so is what a missing one counts as
 pub lowest_each : (xs : List Fraction) → AllByRecursion IsLowest xs → (k : ℕ) → IsLowest (get_or xs k zero_fraction)
 lowest_each [] all k = over_one _
 lowest_each (x ∷ xs) all zero = all.0

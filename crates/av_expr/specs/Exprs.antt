@@ -1,5 +1,5 @@
 -- Whole texts: one sum, with at most 64 levels of signs and parentheses open at a place.
-use Rattle.std.specs.Prelude.{◌≡◌, ◌<◌, ◌+◌, ℕ, List, [], length, Result, Ok, Err}
+use Rattle.std.specs.Prelude.{◌≡◌, ◌<◌, ◌+◌, ℕ, List, [], length}
 use Rattle.av_expr.specs.Trees.{Tree}
 use Rattle.av_text.specs.Parts.{NoPart, Skips, Either}
 use Rattle.av_expr.specs.Grammar.{IsUnary, NoUnary, IsSum, NoSum}
@@ -7,8 +7,6 @@ use Rattle.av_expr.specs.declared.vars.VarSet.{VarSet}
 use Rattle.av_expr.specs.declared.fault.ExprKind.{ExprKind}
 use Rattle.av_expr.specs.declared.fault.ExprKind.TheVariants.{Syntax}
 use Rattle.av_expr.specs.declared.fault.ExprFault.{ExprFault}
-use Rattle.av_expr.specs.declared.fault.ExprError.{ExprError}
-use Rattle.av_expr.specs.declared.fault.ExprError.TheVariants.{Fault, NoMemory}
 
 -- the text says this tree
 pub record IsExpr (allowed : VarSet) (text : List ℕ) (tree : Tree) : Type 0 where
@@ -16,7 +14,7 @@ pub record IsExpr (allowed : VarSet) (text : List ℕ) (tree : Tree) : Type 0 wh
   pub skips : Skips text start
   pub is_sum : IsSum (IsUnary allowed 64) start tree []
 
--- something stands where the text should end
+-- the text goes on after its sum
 abbrev pub IsBehind : NoPart ExprKind
 IsBehind text kind bad = (kind ≡ Syntax) × (bad ≡ text) × (0 < length text)
 
@@ -30,23 +28,3 @@ pub record IsExprFault (allowed : VarSet) (text : List ℕ) (kind : ExprKind) (b
 pub record IsFaultAt (text : List ℕ) (kind : ExprKind) (bad : List ℕ) (f : ExprFault) : Type 0 where
   pub kind_is : f.kind ≡ kind
   pub at_is : f.at + length bad ≡ length text
-
--- ---- what a call answers
-
--- a fault of the text that was answered
-abbrev pub IfFault : {X : Type 0} → Result X ExprError → (ExprFault → Type 0) → Type 0
-IfFault (Ok x) P = Unit {0}
-IfFault (Err (Fault f)) P = P f
-IfFault (Err NoMemory) P = Unit {0}
-
--- such a value, or want of memory
-abbrev pub Gives : {X : Type 0} → (X → Type 0) → Result X ExprError → Type 0
-Gives P (Ok x) = P x
-Gives P (Err (Fault f)) = ⊥
-Gives P (Err NoMemory) = Unit {0}
-
--- such a fault, or want of memory
-abbrev pub Refuses : {X : Type 0} → (ExprFault → Type 0) → Result X ExprError → Type 0
-Refuses P (Ok x) = ⊥
-Refuses P (Err (Fault f)) = P f
-Refuses P (Err NoMemory) = Unit {0}

@@ -33,7 +33,7 @@ pub record IsReduced (num den : ℤ) (f : Fraction) : Type 0 where
   pub positive : pos 0 <ℤ f.den
   pub defined : den ≢ pos 0
 
--- the whole number of a fraction without what stands behind the point: it is rounded towards zero
+-- the whole number of a fraction without what is after the point: it is rounded towards zero
 pub record IsCut (f : Fraction) (z : ℤ) : Type 0 where
   pub within : unsigned_abs z * unsigned_abs f.den ≤ unsigned_abs f.num
   pub next : unsigned_abs f.num < (unsigned_abs z + 1) * unsigned_abs f.den

@@ -23,7 +23,7 @@ abbrev pub IsWhole : List ℕ → Fraction → List ℕ → Type 0
 IsWhole text f rest = (digits behind : List ℕ) × IsRun is_digit text digits behind × (0 < length digits) × (length digits ≤ 18)
     × Lacks 46 behind × (f ≡ record { num = pos (digits_value 10 digits); den = pos 1 }) × Skips behind rest
 
--- a point with digits behind it, and digits or none before it
+-- a point with digits after it, and digits or none before it
 abbrev pub IsDecimal : List ℕ → Fraction → List ℕ → Type 0
 IsDecimal text f rest = (digits part after behind : List ℕ) × IsRun is_digit text digits (46 ∷ after) × (length digits ≤ 18)
     × IsRun is_digit after part behind × (0 < length part) × (length part ≤ 18)
@@ -36,11 +36,11 @@ IsNumber text f rest = IsWhole text f rest ⊎ IsDecimal text f rest
 abbrev pub IsNineteenth : NoPart ExprKind
 IsNineteenth text kind bad = (digits behind : List ℕ) × IsRun is_digit text digits behind × (18 < length digits) × (kind ≡ Syntax) × (bad ≡ drop 18 text)
 
--- no digit stands here, or too many do
+-- no digit is here, or too many are
 abbrev pub NoDigits : NoPart ExprKind
 NoDigits text kind bad = (Stops is_digit text × (kind ≡ Syntax) × (bad ≡ text)) ⊎ IsNineteenth text kind bad
 
--- there are too many digits before the point, or too many or none behind it
+-- there are too many digits before the point, or too many or none after it
 abbrev pub NoNumber : NoPart ExprKind
 NoNumber text kind bad = IsNineteenth text kind bad
     ⊎ ((digits after : List ℕ) × IsRun is_digit text digits (46 ∷ after) × (length digits ≤ 18) × NoDigits after kind bad)
@@ -118,12 +118,12 @@ IsOpen text kind bad = (kind ≡ Syntax) × (bad ≡ text) × Lacks 41 text
 abbrev pub NoGroup : Part Tree → NoPart ExprKind → NoPart ExprKind
 NoGroup P F text kind bad = (inside : List ℕ) × IsMark 40 text inside × Either (IsSum P) (NoSum P F) IsOpen inside kind bad
 
--- an operand, in which so many levels of signs and parentheses may stand
+-- an operand with at most this many levels of signs and parentheses in it
 unfoldable pub IsUnary : VarSet → ℕ → Part Tree
 IsUnary allowed zero text tree rest = IsAtom allowed text tree rest
 IsUnary allowed (suc levels) text tree rest = IsAtom allowed text tree rest ⊎ (IsSigned (IsUnary allowed levels) text tree rest ⊎ IsGroup (IsUnary allowed levels) text tree rest)
 
--- a level stands here that is one too many
+-- a level here is one too many
 abbrev pub IsTooDeep : NoPart ExprKind
 IsTooDeep text kind bad = (kind ≡ TooDeep) × (bad ≡ text) × (c : ℕ) × (behind : List ℕ) × (text ≡ c ∷ behind) × (opens c ≡ true)
 

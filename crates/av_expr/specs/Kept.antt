@@ -1,4 +1,4 @@
--- A tree as the list of its nodes, each behind its parts.
+-- A tree as the list of its nodes, each after its parts.
 use Rattle.std.specs.Prelude.{◌≡◌, ◌≤◌, ◌+◌, ◌-◌, ◌==◌, max, cond, ℕ, ℤ, pos, List, [], ◌∷◌, ◌++◌, get_or}
 use Rattle.std.proofs.Common.{refl, ap, ◌∙◌}
 use Rattle.std.specs.Coded.{Coded, code_by, coded×, coded_ℕ, coded_ℤ, coded_list}
@@ -9,7 +9,7 @@ use Rattle.av_expr.specs.declared.fraction.Operator.TheVariants.{Plus, Minus, Ti
 use Rattle.av_expr.specs.declared.expr.Node.{Node}
 use Rattle.av_expr.specs.declared.expr.Node.TheVariants as node
 
--- a row of trees behind one more node, the latest tree first
+-- a row of trees after one more node, the latest tree first
 abbrev pub joined : Node → List Tree → List Tree
 joined (node.Number f) row = Number f ∷ row
 joined (node.Variable x) row = Variable x ∷ row
@@ -38,7 +38,7 @@ width (Variable x) = 1
 width (Negation t) = width t
 width (Binary op s t) = max (width s) (width t + 1)
 
--- ---- a tree can be stored: it is told by its nodes, and a node by three numbers
+-- ---- a tree can be stored: its nodes determine it, and three numbers a node
 
 abbrev pub node_numbers : Node → ℕ × (ℤ × ℤ)
 node_numbers (node.Number f) = (0, (f.num, f.den))

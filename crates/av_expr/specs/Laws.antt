@@ -24,7 +24,7 @@ pub record TreesHaveOneValue : Type 0 where
   pub one_of_both : (values : List Fraction) (tree : Tree) → AreLowest values → HasLowest tree → ((v : Fraction) × IsValue values tree v) ⊎ ((r : NoValue) × HasNone values tree r)
   pub lowest : (values : List Fraction) (tree : Tree) (v : Fraction) → AreLowest values → HasLowest tree → IsValue values tree v → IsLowest v
 
--- where no step overflows, the value is the rational number that the tree denotes
+-- if no step overflows, the value is the rational number that the tree denotes
 pub record ValuesAreExact : Type 0 where
   pub one_number : (values : List Fraction) (tree : Tree) (p q r s : ℤ) → Denotes values tree p q → Denotes values tree r s → (p ≡ r) × (q ≡ s)
   pub denotes : (values : List Fraction) (tree : Tree) (v : Fraction) → AreLowest values → HasLowest tree → IsValue values tree v

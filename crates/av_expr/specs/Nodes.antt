@@ -7,14 +7,14 @@ use Rattle.av_expr.specs.declared.expr.Node.{Node}
 use Rattle.av_expr.specs.declared.expr.Node.TheVariants.{Number, Variable, Negation, Binary}
 use Rattle.av_expr.specs.declared.fault.NoValue.{NoValue}
 
--- a row of so many values has what the node takes, and room for what it makes
+-- a row of this length has what the node takes, and room for what it makes
 abbrev pub HasRoom : Node → ℕ → Type 0
 HasRoom (Number f) n = n < 131
 HasRoom (Variable x) n = n < 131
 HasRoom Negation n = (1 ≤ n) × (n ≤ 131)
 HasRoom (Binary op) n = (2 ≤ n) × (n ≤ 131)
 
--- the row behind the node
+-- the row after the node
 abbrev pub IsNodeStep : List Fraction → Node → List Fraction → List Fraction → Type 0
 IsNodeStep values (Number f) row next = next ≡ f ∷ row
 IsNodeStep values (Variable x) row next = next ≡ value_of values x ∷ row

@@ -1,4 +1,4 @@
--- Parts of a text, one behind another. White space stands behind a part and belongs to it.
+-- Parts of a text, one after another. White space after a part belongs to it.
 use Rattle.std.specs.Prelude.{◌≡◌, ℕ, List, [], ◌∷◌, Option, Some, None}
 use Rattle.av_expr.specs.Trees.{Tree, Binary}
 use Rattle.av_expr.specs.declared.fraction.Operator.{Operator}
@@ -25,7 +25,7 @@ abbrev pub AreLinks : (ℕ → Option Operator) → Part Tree → List ℕ → L
 AreLinks ops P text [] rest = (rest ≡ text) × NoOperator ops text
 AreLinks ops P text (link ∷ links) rest = (operand behind : List ℕ) × IsOperator ops text link.0 operand × P operand link.1 behind × AreLinks ops P behind links rest
 
--- behind these an operator stands, and its right operand is missing
+-- after these comes an operator without its right operand
 abbrev pub LinksFail : (ℕ → Option Operator) → Part Tree → NoPart ExprKind → List ℕ → List (Operator × Tree) → ExprKind → List ℕ → Type 0
 LinksFail ops P F text [] kind bad = (op : Operator) × (operand : List ℕ) × IsOperator ops text op operand × F operand kind bad
 LinksFail ops P F text (link ∷ links) kind bad = (operand behind : List ℕ) × IsOperator ops text link.0 operand × P operand link.1 behind × LinksFail ops P F behind links kind bad

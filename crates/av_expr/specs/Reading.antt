@@ -1,4 +1,4 @@
--- Places in a text, and what stands at one.
+-- Places in a text, and what is at one.
 use Rattle.std.specs.Prelude.{◌≡◌, ◌+◌, ◌++◌, ◌⊎◌, ◌==◌, ◌||◌, ℕ, true, false, List, ◌∷◌, Option, Some, None, length, drop}
 use Rattle.std.specs.Str.{IsCharBoundary}
 use Rattle.av_text.specs.Classes.{is_digit, is_name, Stops}
@@ -15,22 +15,22 @@ use Rattle.av_expr.specs.declared.reader.Atom.TheVariants.{Number, Name}
 use Rattle.av_expr.specs.declared.fault.ExprFault.{ExprFault}
 use Rattle.av_expr.specs.declared.fault.ExprKind.{ExprKind}
 
--- no such part stands at a place of the text, and this is the fault
+-- no such part is at a place of the text, and this is the fault
 abbrev pub FailsAt : NoPart ExprKind → List ℕ → ℕ → ExprFault → Type 0
 FailsAt F text place f = (bad : List ℕ) × F (drop place text) f.kind bad × (f.at + length bad ≡ length text)
 
--- such a part stands at a place and ends at another, and the nodes of its tree were added
+-- such a part is at a place and ends at another, and the nodes of its tree were added
 pub record IsRead (P : Part Tree) (text : List ℕ) (place : ℕ) (before after : List Node) (end : ℕ) : Type 0 where
   pub tree : Tree
   pub is_part : P (drop place text) tree (drop end text)
   pub added : after ≡ before ++ postfix tree
   pub later : IsPlace text place end
 
--- this mark stands at a place
+-- this mark is at a place
 abbrev pub StandsAt : ℕ → List ℕ → ℕ → Type 0
 StandsAt mark text place = (drop place text ≡ mark ∷ drop (place + 1) text) × IsCharBoundary text (place + 1)
 
--- which operator stands at a place, if any does
+-- which operator is at a place, if any is
 abbrev pub IsOperatorAt : (ℕ → Option Operator) → List ℕ → ℕ → Option Operator → Type 0
 IsOperatorAt ops text place None = NoOperator ops (drop place text)
 IsOperatorAt ops text place (Some op) = (mark : ℕ) × (ops mark ≡ Some op) × StandsAt mark text place

@@ -1,4 +1,4 @@
--- Syntax trees, and the list of nodes by which one is kept: each node behind its parts.
+-- Syntax trees, and the list of nodes by which one is kept: each node after its parts.
 use Rattle.std.specs.Prelude.{List, [], ◌∷◌, ◌++◌}
 use Rattle.av_expr.specs.declared.vars.Var.{Var}
 use Rattle.av_expr.specs.declared.fraction.Fraction.{Fraction}
@@ -13,7 +13,7 @@ pub data Tree : Type 0 where
   Negation : Tree → Tree
   Binary : Operator → Tree → Tree → Tree
 
--- the nodes of a tree, each behind its parts
+-- the nodes of a tree, each after its parts
 abbrev pub postfix : Tree → List Node
 postfix (Number f) = node.Number f ∷ []
 postfix (Variable x) = node.Variable x ∷ []

@@ -1,4 +1,4 @@
--- The value of a tree, for a list of what its variables stand for. Parts are evaluated from left to right.
+-- The value of a tree, for a list of its variables' values. Parts are evaluated from left to right.
 use Rattle.std.specs.Prelude.{◌≡◌, ◌≢◌, ◌⊎◌, ℤ, pos, neg_ℤ, ◌+ℤ◌, ◌-ℤ◌, ◌*ℤ◌, List, get_or}
 use Rattle.av_expr.specs.Vars.{order}
 use Rattle.av_expr.specs.Fractions.{IsLowest, zero_fraction, IsStep, NoStep, IsNegated, NoNegation}
@@ -9,11 +9,11 @@ use Rattle.av_expr.specs.declared.fraction.Operator.{Operator}
 use Rattle.av_expr.specs.declared.fraction.Operator.TheVariants.{Plus, Minus, Times, Over}
 use Rattle.av_expr.specs.declared.fault.NoValue.{NoValue}
 
--- what a variable stands for
+-- the value of a variable
 abbrev pub value_of : List Fraction → Var → Fraction
 value_of values x = get_or values (order x) zero_fraction
 
--- each variable stands for a fraction in lowest terms
+-- the value of each variable is in lowest terms
 abbrev pub AreLowest : List Fraction → Type 0
 AreLowest values = (x : Var) → IsLowest (value_of values x)
 

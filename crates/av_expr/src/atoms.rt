@@ -1,4 +1,4 @@
-//! Numbers and names, and what stands between them.
+//! Numbers and names, and what is between them.
 ghost use Rattle.std.specs.Prelude.{◌≡◌, ◌≤◌, ◌<◌, ◌+◌, ◌*◌, ◌^◌, ℕ, pos, length, drop, slice_range, IfOk, IfSome, IsNone};
 ghost use Rattle.std.specs.Str.{IsCharBoundary};
 ghost use Rattle.std.specs.Str.Parse.{AllDigits, digits_value};
@@ -7,10 +7,11 @@ ghost use Rattle.av_expr.specs.Fractions.{IsReduced};
 ghost use Rattle.av_text.specs.Parts.{Skips, Lacks};
 ghost use Rattle.av_expr.specs.Parts.{IsMark};
 ghost use Rattle.av_expr.specs.Grammar.{IsNineteenth, NoDigits, IsNumber, NoNumber, IsAllowed, IsVariable, NoVariable};
-ghost use Rattle.av_expr.specs.Exprs.{IfFault};
 ghost use Rattle.av_text.specs.Parts.{IsPlace};
 ghost use Rattle.av_expr.specs.Reading.{FailsAt, BeginsNumber, BeginsName};
 ghost use Rattle.av_expr.specs.declared.vars.Var.{Var};
+ghost use Rattle.av_base.specs.Failures.{IfFault};
+ghost use Rattle.av_base.specs.declared.failure.Failure.{Failure};
 
 use crate::fault::{ExprError, ExprFault, ExprKind};
 use crate::fraction::{Fraction, reduce_small};
@@ -23,7 +24,7 @@ const MOST: usize = 18;
 /// The fault of a kind at a place.
 pub(crate) fn fault(place: usize, kind: ExprKind) -> ExprError
     requires { place < 2 ^ 32 }
-    ensures { result ≡ ExprError.Fault (record { at = place; kind = kind }) }
+    ensures { result ≡ Failure.Fault (record { at = place; kind = kind }) }
 {
     let at = place as u32;
     ExprError::Fault(ExprFault { at, kind })
@@ -43,12 +44,12 @@ fn digits_number(digits: &[u8]) -> u64
     value
 }
 
-/// The fraction that the digits before and behind a point write.
+/// The fraction that the digits before and after a point write.
 fn decimal(digits: &[u8], part: &[u8]) -> Fraction
     requires digits { AllDigits 10 digits.now }
     requires few { length digits.now ≤ 18 }
     requires part { AllDigits 10 part.now }
-    requires few_behind { length part.now ≤ 18 }
+    requires few_after { length part.now ≤ 18 }
     ensures { IsReduced (pos (digits_value 10 digits.now * 10 ^ length part.now + digits_value 10 part.now)) (pos (10 ^ length part.now)) result }
 {
     let scale = 10u128.pow(part.len() as u32);
@@ -58,7 +59,7 @@ fn decimal(digits: &[u8], part: &[u8]) -> Fraction
     )
 }
 
-/// The place behind the digits that stand at a place, of which there are at most 18.
+/// The place after the digits at a place, of which there are at most 18.
 fn read_digits(text: &str, place: usize) -> Result<usize, ExprError>
     requires place { IsCharBoundary text.now place }
     requires length { length text.now < 2 ^ 32 }
@@ -74,7 +75,7 @@ fn read_digits(text: &str, place: usize) -> Result<usize, ExprError>
     Ok(text.len() - rest.len())
 }
 
-/// The place behind the digits that stand at a place, of which there are 1 to 18.
+/// The place after the digits at a place, of which there are 1 to 18.
 fn read_part(text: &str, place: usize) -> Result<usize, ExprError>
     requires place { IsCharBoundary text.now place }
     requires length { length text.now < 2 ^ 32 }
@@ -90,7 +91,7 @@ fn read_part(text: &str, place: usize) -> Result<usize, ExprError>
     Ok(end)
 }
 
-/// The number that stands at a place, and the place behind it.
+/// The number at a place, and the place after it.
 pub(crate) fn read_number(text: &str, place: usize) -> Result<(Fraction, usize), ExprError>
     requires place { IsCharBoundary text.now place }
     requires length { length text.now < 2 ^ 32 }
@@ -111,7 +112,7 @@ pub(crate) fn read_number(text: &str, place: usize) -> Result<(Fraction, usize),
     Ok((decimal(digits, part), skip_white(text, end)))
 }
 
-/// The variable that a name spells, where it is allowed.
+/// The variable that a name spells, if it is allowed.
 fn allowed_variable(name: &str, allowed: VarSet) -> Option<Var>
     ensures variable { IfSome result (IsAllowed allowed name.now) }
     ensures none { IsNone result → (x : Var) → ¬ IsAllowed allowed name.now x }
@@ -120,7 +121,7 @@ fn allowed_variable(name: &str, allowed: VarSet) -> Option<Var>
     if allowed.has(var) { Some(var) } else { None }
 }
 
-/// The variable whose name stands at a place, and the place behind it.
+/// The variable whose name is at a place, and the place after it.
 pub(crate) fn read_variable(
     text: &str,
     place: usize,

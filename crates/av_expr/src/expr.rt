@@ -13,15 +13,15 @@ pub(crate) enum Node {
     Number(Fraction),
     /// A variable.
     Variable(Var),
-    /// A `-` before the part that stands right before this node.
+    /// A `-` before the part right before this node.
     Negation,
-    /// An operator between the two parts that stand right before this node.
+    /// An operator between the two parts right before this node.
     Binary(Operator),
 }
 
 /// An expression. Contracts see its syntax tree.
 ///
-/// It is kept as the list of the tree's nodes, each behind its parts: so neither reading nor evaluating nor dropping a
+/// It is kept as the list of the tree's nodes, each after its parts: so neither reading nor evaluating nor dropping a
 /// long sum goes as deep as the sum is long.
 #[derive(Drop)]
 pub struct Expr {
@@ -57,13 +57,13 @@ impl Expr {
         Expr { nodes }
     }
 
-    /// The value of the expression, in lowest terms, where its variables have these values.
+    /// The value of the expression, in lowest terms, if its variables have these values.
     ///
     /// `a/b + c/d` is `(a*d + c*b) / (b*d)`, and so on, then reduced. It takes no memory.
     ///
-    /// Errors, of which the first from left to right is answered: `DivisionByZero` where a divisor is 0; `Overflow` where
-    /// a product or sum before reduction, a negation, or the change of both signs that makes a denominator positive,
-    /// leaves the 128 bits.
+    /// # Errors
+    /// The first from left to right of these: `DivisionByZero` if a divisor is 0; `Overflow` if a product or sum before
+    /// reduction, a negation, or the change of both signs that makes a denominator positive, leaves the 128 bits.
     pub fn eval(&self, values: &Values) -> Result<Fraction, NoValue>
         ensures value { IfOk result (IsValue values.now self.now) }
         // What has a value isn't refused, and has no other.

@@ -1,5 +1,5 @@
 //! Why a text is no expression, and why an expression has no value.
-use std::alloc::{AllocError, AllocFailed};
+use av_base::Failure;
 
 /// What is wrong with a text.
 #[derive(Clone, Copy, Debug, PartialEq, Eq)]
@@ -15,42 +15,14 @@ pub enum ExprKind {
 /// Where a text is no expression, and why.
 #[derive(Clone, Copy, Debug, PartialEq, Eq)]
 pub struct ExprFault {
-    /// The byte of the text at which the fault stands, counted from 0.
+    /// The byte of the text at which the fault is, counted from 0.
     pub at: u32,
     /// What is wrong there.
     pub kind: ExprKind,
 }
 
 /// Why a text wasn't read.
-#[derive(Clone, Copy, Debug, PartialEq, Eq)]
-pub enum ExprError {
-    /// It is no expression.
-    Fault(ExprFault),
-    /// Want of memory.
-    NoMemory,
-}
-
-impl From<AllocError> for ExprError {
-    ghost use Rattle.std.specs.Prelude.{◌≡◌};
-    ghost use Rattle.av_expr.specs.declared.fault.ExprError.TheVariants.{NoMemory};
-
-    ghost from_gives = { λ _ e. e ≡ NoMemory };
-
-    fn from(_refused: AllocError) -> ExprError {
-        ExprError::NoMemory
-    }
-}
-
-impl<T: Drop> From<AllocFailed<T>> for ExprError {
-    ghost use Rattle.std.specs.Prelude.{◌≡◌};
-    ghost use Rattle.av_expr.specs.declared.fault.ExprError.TheVariants.{NoMemory};
-
-    ghost from_gives = { λ _ e. e ≡ NoMemory };
-
-    fn from(_refused: AllocFailed<T>) -> ExprError {
-        ExprError::NoMemory
-    }
-}
+pub type ExprError = Failure<ExprFault>;
 
 /// Why an expression has no value.
 #[derive(Clone, Copy, Debug, PartialEq, Eq)]

@@ -9,7 +9,7 @@ ghost use Rattle.av_expr.specs.declared.fraction.Fraction.{Fraction};
 use crate::fault::NoValue;
 use av_base::greatest_divisor;
 
-/// A fraction. It is in lowest terms where its parts have no common divisor, and then its denominator is positive.
+/// A fraction. It is in lowest terms if its parts have no common divisor and its denominator is positive.
 #[derive(Clone, Copy, Debug, PartialEq, Eq)]
 pub struct Fraction {
     /// The part above.
@@ -31,7 +31,7 @@ pub enum Operator {
     Over,
 }
 
-/// The number of this sign and size; none where it leaves the 128 bits.
+/// The number of this sign and size; none if it leaves the 128 bits.
 fn signed(negative: bool, size: u128) -> Option<i128>
     ensures number { IfSome result (λ z. z ≡ signed_of negative size) }
     ensures none { IsNone result → ¬ Fits (signed_of negative size) }
@@ -43,7 +43,7 @@ fn signed(negative: bool, size: u128) -> Option<i128>
     }
 }
 
-/// The fraction of two numbers in lowest terms, with a positive denominator; none where a part leaves the 128 bits.
+/// The fraction of two numbers in lowest terms, with a positive denominator; none if a part leaves the 128 bits.
 pub(crate) fn reduce(num: i128, den: i128) -> Option<Fraction>
     requires { den ≢ pos 0 }
     ensures fraction { IfSome result (IsReduced num den) }
@@ -100,7 +100,7 @@ fn nearest_quotient(a: u128, b: u128) -> u128
 }
 
 impl Operator {
-    /// The parts of the result before it is reduced; none where a product or a sum leaves the 128 bits.
+    /// The parts of the result before it is reduced; none if a product or a sum leaves the 128 bits.
     fn parts(self, a: Fraction, b: Fraction) -> Option<(i128, i128)>
         ensures parts { IfSome result (λ p. AllByRecursion Fits (made self a b) × (p.0 ≡ above self a b) × (p.1 ≡ below self a b)) }
         ensures none { IsNone result → ¬ AllByRecursion Fits (made self a b) }
@@ -158,7 +158,7 @@ impl Fraction {
         }
     }
 
-    /// The whole number that is left when the part behind the point is cut off: it is rounded towards zero.
+    /// The whole number that is left when the part after the point is cut off: it is rounded towards zero.
     ///
     /// The fraction is in lowest terms, with a positive denominator.
     pub fn cut(self) -> i128

@@ -5,10 +5,11 @@ ghost use Rattle.av_text.specs.Classes.{Stops};
 ghost use Rattle.av_expr.specs.Trees.{Tree, postfix};
 ghost use Rattle.av_expr.specs.Parts.{IsMark};
 ghost use Rattle.av_expr.specs.Grammar.{IsAtom, NoAtom, IsUnary, NoUnary, IsProduct, NoProduct, IsSum, NoSum, IsOpen, additive, multiplicative, opens};
-ghost use Rattle.av_expr.specs.Exprs.{IsExpr, IsExprFault, IsFaultAt, IfFault, Gives, Refuses};
+ghost use Rattle.av_expr.specs.Exprs.{IsExpr, IsExprFault, IsFaultAt};
 ghost use Rattle.av_text.specs.Parts.{IsPlace};
 ghost use Rattle.av_expr.specs.Reading.{FailsAt, IsRead, IsOperatorAt, IsOpeningAt, IsAtomAt};
 ghost use Rattle.av_expr.specs.declared.fault.ExprKind.{ExprKind};
+ghost use Rattle.av_base.specs.Failures.{IfFault, Gives, Refuses};
 
 use crate::atoms::{fault, read_number, read_variable};
 use crate::expr::{Expr, Node};
@@ -43,7 +44,7 @@ fn multiplicative(byte: u8) -> Option<Operator>
     }
 }
 
-/// The operator of sums that stands at a place, if one does.
+/// The operator of sums at a place, if there is one.
 fn sum_operator(text: &str, place: usize) -> Option<Operator>
     requires { place ≤ length text.now }
     ensures { IsOperatorAt additive text.now place result }
@@ -54,7 +55,7 @@ fn sum_operator(text: &str, place: usize) -> Option<Operator>
     }
 }
 
-/// The operator of products that stands at a place, if one does.
+/// The operator of products at a place, if there is one.
 fn product_operator(text: &str, place: usize) -> Option<Operator>
     requires { place ≤ length text.now }
     ensures { IsOperatorAt multiplicative text.now place result }
@@ -113,7 +114,7 @@ fn atom_at(text: &str, place: usize) -> Option<Atom>
     }
 }
 
-/// The number or name that stands at a place is added; the place behind it is answered.
+/// Adds the number or name at a place, and returns the place after it.
 fn read_atom(
     out: &mut Vec<Node>,
     text: &str,
@@ -141,7 +142,7 @@ fn read_atom(
     }
 }
 
-/// The place behind the `)` that stands at a place.
+/// The place after the `)` at a place.
 fn close(text: &str, place: usize) -> Result<usize, ExprError>
     requires place { IsCharBoundary text.now place }
     requires length { length text.now < 2 ^ 32 }
@@ -155,7 +156,7 @@ fn close(text: &str, place: usize) -> Result<usize, ExprError>
     Ok(skip_white(text, place + 1))
 }
 
-/// The operand that stands at a place is added; the place behind it is answered. So many levels may stand in it.
+/// Adds the operand at a place, with at most this many levels in it, and returns the place after it.
 #[cycle(grammar)]
 fn read_unary(
     out: &mut Vec<Node>,
@@ -190,7 +191,7 @@ fn read_unary(
     }
 }
 
-/// The product that stands at a place is added; the place behind it is answered.
+/// Adds the product at a place, and returns the place after it.
 #[cycle(grammar)]
 fn read_product(
     out: &mut Vec<Node>,
@@ -213,7 +214,7 @@ fn read_product(
     Ok(end)
 }
 
-/// The sum that stands at a place is added; the place behind it is answered.
+/// Adds the sum at a place, and returns the place after it.
 #[cycle(grammar)]
 fn read_sum(
     out: &mut Vec<Node>,
@@ -253,14 +254,15 @@ fn read_text(out: &mut Vec<Node>, text: &str, allowed: VarSet) -> Result<(), Exp
 /// The expression that a text says, with variables of a set.
 ///
 /// A sum is products with `+` and `-` between them, a product is operands with `*` and `/` between them, and operators
-/// of one level group from the left. An operand is a number, a name, a sum in parentheses, or an operand behind a `-` or
-/// `+`. A number is digits, of which a `.` may stand before some, with at most 18 on each side. A name is a letter or
-/// `_`, then letters, digits and `_`. White space may stand before, between and behind these parts. The text has fewer
+/// of one level group from the left. An operand is a number, a name, a sum in parentheses, or an operand after a `-` or
+/// `+`. A number is digits, with a `.` before some of them or not, and at most 18 on each side. A name is a letter or
+/// `_`, then letters, digits and `_`. White space may be before, between and after these parts. The text has fewer
 /// than 2^32 bytes.
 ///
-/// Errors, of which the first in reading order is answered: `Syntax` at the first byte that no reading allows, or at the
-/// end; `UnknownName` at the first byte of a name that isn't one of an allowed variable; `TooDeep` at the first byte of
-/// the 65th level of parentheses and unary signs; want of memory.
+/// # Errors
+/// The first in reading order of these: `Syntax` at the first byte that no reading allows, or at the end; `UnknownName`
+/// at the first byte of a name that isn't one of an allowed variable; `TooDeep` at the first byte of the 65th level of
+/// parentheses and unary signs. Or out of memory.
 pub fn parse(alloc: Global, text: &str, allowed: VarSet) -> Result<Expr, ExprError>
     requires { length text.now < 2 ^ 32 }
     ensures tree { IfOk result (IsExpr allowed text.now) }

@@ -16,7 +16,7 @@ pub(crate) fn read(alloc: Global, text: &str, allowed: VarSet) -> Result<Expr, E
     parse(alloc, text, allowed)
 }
 
-/// What a text is worth where each of its variables is 0; none where it isn't read.
+/// What a text is worth if each of its variables is 0; none if it isn't read.
 pub(crate) fn worth(alloc: Global, text: &str) -> Option<Result<Fraction, NoValue>> {
     match read(alloc, text, ALL) {
         Ok(expr) => Some(expr.eval(&Values::zero())),
@@ -112,7 +112,7 @@ fn the_first_fault_is_named_at_its_byte(rt: HostRuntime) {
     }
 }
 
-/// A text of so many opening marks, a number, and as many closing marks, if there are any.
+/// A text of opening marks, a number, and as many closing marks, if there are any.
 fn nested(alloc: Global, open: char, levels: u32, close: &str) -> Result<String, Fail> {
     let mut text = String::new(alloc);
     for _ in 0..levels {
@@ -152,7 +152,7 @@ fn long_sums_are_read_and_evaluated(rt: HostRuntime) -> Result<(), Fail> {
     Ok(())
 }
 
-/// Whether a name spells this variable, and is unknown where the variable isn't allowed.
+/// Whether a name spells this variable, and is unknown if the variable isn't allowed.
 fn is_spelled(alloc: Global, text: &str, var: Var) -> bool {
     let only = VarSet::of(&[var]);
     let bits = ALL.bits & !only.bits;

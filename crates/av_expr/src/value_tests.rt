@@ -2,7 +2,7 @@ use crate::tests::{ALL, fraction, read};
 use crate::{Fraction, NoValue, Values, Var, VarSet};
 use std::alloc::Global;
 
-/// The greatest and the least number of 128 bits.
+/// The greatest and the lowest number of 128 bits.
 const MAX: i128 = 170141183460469231731687303715884105727;
 
 const MIN: i128 = -170141183460469231731687303715884105728;
@@ -14,7 +14,7 @@ const MAX_TEXT: &str =
 const MIN_TEXT: &str =
     "-(170141183460469231*100000000000000000*10000 + 731687303715884*1000000 + 105727) - 1";
 
-/// The variables of the rows: `N` is the greatest number, `PTS` the least, `w` a third and `h` 0.
+/// The variables of the rows: `N` is the greatest number, `PTS` the lowest, `w` a third and `h` 0.
 fn edges(alloc: Global) -> Option<Values> {
     let mut values = Values::zero();
     values.set(Var::N, fraction(alloc, MAX_TEXT)?);
@@ -23,7 +23,7 @@ fn edges(alloc: Global) -> Option<Values> {
     Some(values)
 }
 
-/// What a text is worth at the edges; none where it isn't read.
+/// What a text is worth at the edges; none if it isn't read.
 fn worth(alloc: Global, text: &str) -> Option<Result<Fraction, NoValue>> {
     match read(alloc, text, ALL) {
         Ok(expr) => Some(expr.eval(&edges(alloc)?)),

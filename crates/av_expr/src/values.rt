@@ -1,4 +1,4 @@
-//! What the variables of an expression stand for.
+//! The values of an expression's variables.
 use crate::fraction::Fraction;
 use crate::vars::Var;
 use std::marker::Model;
@@ -39,7 +39,7 @@ impl Values {
         }
     }
 
-    /// Sets what a variable stands for: a fraction in lowest terms, with a positive denominator.
+    /// Sets the value of a variable: a fraction in lowest terms, with a positive denominator.
     pub fn set(&mut self, var: Var, value: Fraction)
         requires { IsLowest value }
         ensures here { value_of self.new var ≡ value }
@@ -48,7 +48,7 @@ impl Values {
         self.table[var.order() as usize] = value;
     }
 
-    /// What each variable stands for, in the order of the variables.
+    /// The value of each variable, in the order of the variables.
     pub(crate) fn table(&self) -> &[Fraction]
         ensures same { result.now ≡ self.now }
         ensures length { length result.now ≡ 18 }

@@ -28,7 +28,7 @@ pub enum Var {
     OverH,
     /// The sample: `val`.
     Val,
-    /// The least lawful sample: `minval`.
+    /// The lowest lawful sample: `minval`.
     MinVal,
     /// The greatest lawful sample: `maxval`.
     MaxVal,
@@ -80,7 +80,7 @@ impl Var {
     }
 }
 
-/// A set of variables. Bit i stands for the i-th variable.
+/// A set of variables. Bit i means the i-th variable.
 #[derive(Clone, Copy, Debug, PartialEq, Eq)]
 pub struct VarSet {
     /// The bits.

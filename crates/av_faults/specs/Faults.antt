@@ -85,6 +85,6 @@ stop_line stops = codes "avgraph: " ++ stop_text stops ++ 10 ∷ []
 abbrev pub IsOfText : Fault → Type 0
 IsOfText fault = (stop_status (stop.Fault fault) ≡ 3) ⊎ ((stop_status (stop.Fault fault) ≡ 4) ⊎ (stop_status (stop.Fault fault) ≡ 10))
 
--- a fault that stands in a file, or in what filters make of its shape
+-- a fault of a file, or of what filters make of its shape
 abbrev pub IsOfFile : Fault → Type 0
 IsOfFile fault = (stop_status (stop.Fault fault) ≡ 7) ⊎ ((stop_status (stop.Fault fault) ≡ 8) ⊎ (stop_status (stop.Fault fault) ≡ 15))

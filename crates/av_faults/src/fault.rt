@@ -1,4 +1,4 @@
-//! What stops the command, and what is said of it.
+//! What stops the command, its status and its line.
 ghost use Rattle.std.specs.Prelude.{◌≡◌, ◌+◌, ◌<◌, ◌≤◌, ◌++◌, length, codes};
 ghost use Rattle.std.specs.Fmt.{decimal, signed_decimal};
 ghost use Rattle.arrayvec.specs.ArrayString.{array_string_len};
@@ -64,7 +64,7 @@ pub enum Fault {
         /// The argument's number, counted from 0.
         option: u32,
     },
-    /// An argument without a name stands after one with a name, or past the last option.
+    /// An argument without a name comes after one with a name, or past the last option.
     TooManyValues {
         /// The filter's number.
         filter: u32,
@@ -103,7 +103,7 @@ pub enum Fault {
         filter: u32,
         /// What was asked for, in samples.
         found: i64,
-        /// The greatest, or the least, that is allowed.
+        /// The greatest, or the lowest, that is allowed.
         allowed: i64,
     },
     /// The output of a filter passes a limit.
@@ -135,7 +135,7 @@ pub enum Fault {
     WriteFault,
     /// The graph text has no reading.
     TextFault {
-        /// The byte of the text at which the fault stands, counted from 0.
+        /// The byte of the text at which the fault is, counted from 0.
         at: u32,
         /// What is wrong there.
         kind: TextKind,
@@ -144,7 +144,7 @@ pub enum Fault {
     Limit {
         /// The quantity.
         kind: LimitKind,
-        /// Which of several passes it, counted from 0, and 0 where there is one alone.
+        /// Which of several passes it, counted from 0, and 0 if there is only one.
         which: u32,
         /// The greatest number allowed.
         allowed: u64,
@@ -227,7 +227,7 @@ fn put_one(line: &mut ArrayString<LINE_ROOM>, name: &str, number: u32)
     put_number(line, name, u64::from(number));
 }
 
-/// Appends what is said of a filter's option, after the name of a fault.
+/// Appends the name of a fault, and the numbers of a filter and of its option.
 fn put_option(line: &mut ArrayString<LINE_ROOM>, name: &str, filter: u32, option: u32)
     requires { array_string_len line.old + length name.now ≤ 40 }
     ensures text { line.new.bytes ≡ line.old.bytes ++ name.now ++ decimal filter ++ codes " option=" ++ decimal option }
@@ -237,7 +237,7 @@ fn put_option(line: &mut ArrayString<LINE_ROOM>, name: &str, filter: u32, option
     put_number(line, " option=", u64::from(option));
 }
 
-/// Appends what is said of two sizes.
+/// Appends two sizes that differ.
 fn put_sizes(line: &mut ArrayString<LINE_ROOM>, filter: u32, a: u64, b: u64)
     requires { array_string_len line.old ≤ 16 }
     ensures text { line.new.bytes ≡ line.old.bytes ++ stop_text (Stop.Fault (Fault.SizeMismatch filter a b)) }
@@ -248,7 +248,7 @@ fn put_sizes(line: &mut ArrayString<LINE_ROOM>, filter: u32, a: u64, b: u64)
     put_number(line, " b=", b);
 }
 
-/// Appends what is said of a size or a place.
+/// Appends a size or a place that isn't allowed.
 fn put_geometry(line: &mut ArrayString<LINE_ROOM>, filter: u32, found: i64, allowed: i64)
     requires { array_string_len line.old ≤ 16 }
     ensures text { line.new.bytes ≡ line.old.bytes ++ stop_text (Stop.Fault (Fault.BadGeometry filter found allowed)) }
@@ -259,7 +259,7 @@ fn put_geometry(line: &mut ArrayString<LINE_ROOM>, filter: u32, found: i64, allo
     put_signed(line, " allowed=", allowed);
 }
 
-/// Appends what is said of an output that is too large.
+/// Appends an output that is too large.
 fn put_large(line: &mut ArrayString<LINE_ROOM>, filter: u32, found: u64, allowed: u64)
     requires { array_string_len line.old ≤ 16 }
     ensures text { line.new.bytes ≡ line.old.bytes ++ stop_text (Stop.Fault (Fault.TooLarge filter found allowed)) }
@@ -270,7 +270,7 @@ fn put_large(line: &mut ArrayString<LINE_ROOM>, filter: u32, found: u64, allowed
     put_number(line, " allowed=", allowed);
 }
 
-/// Appends what is said of a fault of the graph text.
+/// Appends a fault of the graph text.
 fn put_text_fault(line: &mut ArrayString<LINE_ROOM>, at: u32, kind: TextKind)
     requires { array_string_len line.old ≤ 16 }
     ensures text { line.new.bytes ≡ line.old.bytes ++ stop_text (Stop.Fault (Fault.TextFault at kind)) }
@@ -280,7 +280,7 @@ fn put_text_fault(line: &mut ArrayString<LINE_ROOM>, at: u32, kind: TextKind)
     put_word(line, " kind=", kind_word(kind));
 }
 
-/// Appends what is said of a limit.
+/// Appends a limit that is passed.
 fn put_limit(line: &mut ArrayString<LINE_ROOM>, kind: LimitKind, which: u32, allowed: u64)
     requires { array_string_len line.old ≤ 16 }
     ensures text { line.new.bytes ≡ line.old.bytes ++ stop_text (Stop.Fault (Fault.Limit kind which allowed)) }
@@ -289,6 +289,31 @@ fn put_limit(line: &mut ArrayString<LINE_ROOM>, kind: LimitKind, which: u32, all
     put_word(line, "Limit kind=", limit_word(kind));
     put_number(line, " which=", u64::from(which));
     put_number(line, " allowed=", allowed);
+}
+
+/// Appends the name of a fault of a filter's settings and its fields.
+fn put_setting(line: &mut ArrayString<LINE_ROOM>, fault: Fault)
+    requires len { array_string_len line.old ≤ 16 }
+    requires setting { stop_status (Stop.Fault fault) ≡ 8 }
+    ensures text { line.new.bytes ≡ line.old.bytes ++ stop_text (Stop.Fault fault) }
+    ensures room { array_string_len line.new < LINE_ROOM }
+{
+    match fault {
+        Fault::SizeMismatch { filter, a, b } => put_sizes(line, filter, a, b),
+        Fault::BadGeometry {
+            filter,
+            found,
+            allowed,
+        } => put_geometry(line, filter, found, allowed),
+        Fault::TooLarge {
+            filter,
+            found,
+            allowed,
+        } => put_large(line, filter, found, allowed),
+        Fault::TimeBaseRange { filter } => put_one(line, "TimeBaseRange filter=", filter),
+        Fault::NoValue { filter, option } => put_option(line, "NoValue filter=", filter, option),
+        _ => unreachable!(),
+    }
 }
 
 /// Appends the name of a fault and its fields.
@@ -319,19 +344,11 @@ fn put_fault(line: &mut ArrayString<LINE_ROOM>, fault: Fault)
         Fault::BadValue { filter, option } => put_option(line, "BadValue filter=", filter, option),
         Fault::MissingOption { filter } => put_one(line, "MissingOption filter=", filter),
         Fault::NoCommonFormat { link } => put_one(line, "NoCommonFormat link=", link),
-        Fault::SizeMismatch { filter, a, b } => put_sizes(line, filter, a, b),
-        Fault::BadGeometry {
-            filter,
-            found,
-            allowed,
-        } => put_geometry(line, filter, found, allowed),
-        Fault::TooLarge {
-            filter,
-            found,
-            allowed,
-        } => put_large(line, filter, found, allowed),
-        Fault::TimeBaseRange { filter } => put_one(line, "TimeBaseRange filter=", filter),
-        Fault::NoValue { filter, option } => put_option(line, "NoValue filter=", filter, option),
+        Fault::SizeMismatch { .. }
+        | Fault::BadGeometry { .. }
+        | Fault::TooLarge { .. }
+        | Fault::TimeBaseRange { .. }
+        | Fault::NoValue { .. } => put_setting(line, fault),
         Fault::TextFault { at, kind } => put_text_fault(line, at, kind),
         Fault::Limit {
             kind,
@@ -353,7 +370,7 @@ fn put_stop(line: &mut ArrayString<LINE_ROOM>, stop: Stop)
     }
 }
 
-/// The line that is said of a stop, with its line feed.
+/// The line that is printed of a stop, with its line feed.
 pub fn line(stop: Stop) -> ArrayString<LINE_ROOM>
     ensures { result.bytes ≡ stop_line stop }
 {

@@ -5,7 +5,7 @@ use av_text::TextKind;
 
 #[test]
 fn each_stop_has_its_line_and_its_status(rt: HostRuntime) {
-    for (stop, code, said) in [
+    for (stop, code, text) in [
         (Stop::NoMemory, 14, "avgraph: NoMemory\n"),
         (Stop::Fault(Fault::NotYet), 15, "avgraph: NotYet\n"),
         (
@@ -24,14 +24,14 @@ fn each_stop_has_its_line_and_its_status(rt: HostRuntime) {
             "avgraph: WriteFault count=1\n",
         ),
     ] {
-        assert_eq!(rt; line(stop).as_str(), said);
-        assert_eq!(rt; status(stop), code, "{said}");
+        assert_eq!(rt; line(stop).as_str(), text);
+        assert_eq!(rt; status(stop), code, "{text}");
     }
 }
 
 #[test]
-fn a_fault_of_a_filter_tells_its_numbers(rt: HostRuntime) {
-    for (fault, code, said) in [
+fn a_fault_of_a_filter_shows_its_numbers(rt: HostRuntime) {
+    for (fault, code, text) in [
         (
             Fault::MissingOption { filter: 255 },
             4,
@@ -62,14 +62,14 @@ fn a_fault_of_a_filter_tells_its_numbers(rt: HostRuntime) {
         ),
     ] {
         let stop = Stop::Fault(fault);
-        assert_eq!(rt; line(stop).as_str(), said);
-        assert_eq!(rt; status(stop), code, "{said}");
+        assert_eq!(rt; line(stop).as_str(), text);
+        assert_eq!(rt; status(stop), code, "{text}");
     }
 }
 
 #[test]
 fn a_fault_of_the_words_tells_its_word(rt: HostRuntime) {
-    for (fault, said) in [
+    for (fault, text) in [
         (
             Fault::UnknownWord { word: 0 },
             "avgraph: UnknownWord word=0\n",
@@ -93,14 +93,14 @@ fn a_fault_of_the_words_tells_its_word(rt: HostRuntime) {
         (Fault::NoOutput, "avgraph: NoOutput\n"),
     ] {
         let stop = Stop::Fault(fault);
-        assert_eq!(rt; line(stop).as_str(), said);
-        assert_eq!(rt; status(stop), 2, "{said}");
+        assert_eq!(rt; line(stop).as_str(), text);
+        assert_eq!(rt; status(stop), 2, "{text}");
     }
 }
 
 #[test]
 fn a_fault_of_the_text_tells_its_byte_and_its_kind(rt: HostRuntime) {
-    for (at, kind, said) in [
+    for (at, kind, text) in [
         (0, TextKind::Stray, "avgraph: TextFault at=0 kind=Stray\n"),
         (
             2,
@@ -124,14 +124,14 @@ fn a_fault_of_the_text_tells_its_byte_and_its_kind(rt: HostRuntime) {
         ),
     ] {
         let stop = Stop::Fault(Fault::TextFault { at, kind });
-        assert_eq!(rt; line(stop).as_str(), said);
-        assert_eq!(rt; status(stop), 3, "{said}");
+        assert_eq!(rt; line(stop).as_str(), text);
+        assert_eq!(rt; status(stop), 3, "{text}");
     }
 }
 
 #[test]
 fn a_limit_tells_its_quantity_and_its_numbers(rt: HostRuntime) {
-    for (kind, which, allowed, said) in [
+    for (kind, which, allowed, text) in [
         (
             LimitKind::Filters,
             0,
@@ -162,7 +162,7 @@ fn a_limit_tells_its_quantity_and_its_numbers(rt: HostRuntime) {
             which,
             allowed,
         });
-        assert_eq!(rt; line(stop).as_str(), said);
-        assert_eq!(rt; status(stop), 10, "{said}");
+        assert_eq!(rt; line(stop).as_str(), text);
+        assert_eq!(rt; status(stop), 10, "{text}");
     }
 }

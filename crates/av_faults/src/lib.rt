@@ -1,4 +1,4 @@
-//! What stops a command, and what is said of it: each fault with its place, its status and its line.
+//! What stops a command: each fault with its place, its status and its line.
 #![tactic(auto)]
 
 mod fault;

@@ -6,11 +6,6 @@ mod GridLemmas
 mod PlanesLemmas
 pub mod PictureLemmas
 mod PaintLemmas
+mod BandLemmas
 mod QueueLemmas
 mod EachLemmas
-pub mod HistoryLemmas
-pub mod WholeLemmas
-pub mod WordLemmas
-mod OptionLemmas
-pub mod LimitLemmas
-pub mod FramewiseLemmas

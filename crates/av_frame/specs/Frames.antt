@@ -4,6 +4,7 @@ use Rattle.std.specs.List.{range_with_len}
 use Rattle.av_base.specs.declared.shapes.Shape.{Shape}
 use Rattle.av_base.specs.Shapes.{IsLawful, IsVideo, planes_of, columns_of, rows_of}
 use Rattle.av_frame.specs.Rasters.{Raster, IsRaster, row_of, sample_of, blank_raster, raster_by}
+use Rattle.av_base.specs.Bounds.{greatest_time}
 
 -- A frame that stays as it is. Its pts and duration are in ticks of the shape's time base.
 pub record FrameValue : Type 0 where
@@ -44,11 +45,11 @@ pub record IsPicture (shape : Shape) (planes : List Raster) : Type 0 where
 
 -- a timestamp within 2^62
 abbrev pub IsPts : ℤ → Type 0
-IsPts pts = (neg_ℤ (pos (2 ^ 62)) ≤ℤ pts) × (pts ≤ℤ pos (2 ^ 62))
+IsPts pts = (neg_ℤ (pos greatest_time) ≤ℤ pts) × (pts ≤ℤ pos greatest_time)
 
 -- a duration of at least one tick and at most 2^62
 abbrev pub IsDuration : ℤ → Type 0
-IsDuration duration = (pos 1 ≤ℤ duration) × (duration ≤ℤ pos (2 ^ 62))
+IsDuration duration = (pos 1 ≤ℤ duration) × (duration ≤ℤ pos greatest_time)
 
 -- what holds of every frame
 pub record IsFrame (f : FrameValue) : Type 0 where

@@ -82,7 +82,7 @@ impl Edit {
         self.shape
     }
 
-    /// One sample.
+    /// One sample, as it is so far.
     pub fn sample(&mut self, plane: u32, row: u32, column: u32) -> i32
         requires plane { plane < planes_of self.old.shape }
         requires row { row < (plane_at self.old.planes plane).height }
@@ -91,17 +91,6 @@ impl Edit {
         ensures same { self.new ≡ self.old }
     {
         i32::from(self.planes[plane as usize].sample(row, column))
-    }
-
-    /// Copies a row of samples of eight bits into `out`, which is as long as the row.
-    pub fn row(&mut self, plane: u32, row: u32, out: &mut [u8])
-        requires plane { plane < planes_of self.old.shape }
-        requires row { row < (plane_at self.old.planes plane).height }
-        requires wide { length out.old ≡ (plane_at self.old.planes plane).width }
-        ensures out { out.new ≡ row_of (plane_at self.old.planes plane) row }
-        ensures same { self.new ≡ self.old }
-    {
-        self.planes[plane as usize].part(row, 0, out);
     }
 
     /// Replaces one sample, by a value of 0 to 255.
@@ -114,6 +103,17 @@ impl Edit {
         ensures { self.new ≡ record self.old { planes = with_sample self.old.planes plane row column (unsigned_abs value) } }
     {
         self.planes[plane as usize].set(row, column, value as u8);
+    }
+
+    /// Copies a row of samples of eight bits, as they are so far, into `out`, which is as long as the row.
+    pub fn row(&mut self, plane: u32, row: u32, out: &mut [u8])
+        requires plane { plane < planes_of self.old.shape }
+        requires row { row < (plane_at self.old.planes plane).height }
+        requires wide { length out.old ≡ (plane_at self.old.planes plane).width }
+        ensures out { out.new ≡ row_of (plane_at self.old.planes plane) row }
+        ensures same { self.new ≡ self.old }
+    {
+        self.planes[plane as usize].part(row, 0, out);
     }
 
     /// Replaces a row by samples of eight bits, as many as the row has.

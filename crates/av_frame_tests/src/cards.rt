@@ -84,7 +84,7 @@ impl PerFrame for Cards {
 /// Cards and frames.
 #[derive(Drop)]
 pub struct Carded {
-    each: Each<Cards>,
+    cards: Each<Cards>,
 }
 
 impl Carded {
@@ -94,8 +94,8 @@ impl Carded {
         requires narrow { (p : ℕ) → columns_of shape p ≤ 8 }
         ensures { IfOk result (λ f. IsNew (⟦<Carded as Filter>⟧.pads f) (⟦<Carded as Filter>⟧.rest f) (⟦<Carded as Filter>⟧.accepts f) (one_to 2) (each_rule card_made) (λ _. shape) (λ _. shape)) }
     {
-        let each = Each::new(alloc, Cards { pools, shape }, 2)?;
-        Ok(Carded { each })
+        let cards = Each::new(alloc, Cards { pools, shape }, 2)?;
+        Ok(Carded { cards })
     }
 }
 
@@ -104,26 +104,26 @@ impl Filter for Carded {
     ghost use Rattle.av_frame_tests.specs.SmallFilters.{card_made};
     ghost use Rattle.av_frame_tests.specs.SmallFilterLaws.{card_some};
 
-    ghost pads = { λ f. ⟦<Each<Cards> as Filter>⟧.pads f.each };
+    ghost pads = { λ f. ⟦<Each<Cards> as Filter>⟧.pads f.cards };
 
-    ghost rest = { λ f. ⟦<Each<Cards> as Filter>⟧.rest f.each };
+    ghost rest = { λ f. ⟦<Each<Cards> as Filter>⟧.rest f.cards };
 
-    ghost accepts = { λ f. ⟦<Each<Cards> as Filter>⟧.accepts f.each };
+    ghost accepts = { λ f. ⟦<Each<Cards> as Filter>⟧.accepts f.cards };
 
-    ghost closes = { λ f. ⟦<Each<Cards> as Filter>⟧.closes f.each };
+    ghost closes = { λ f. ⟦<Each<Cards> as Filter>⟧.closes f.cards };
 
-    ghost wants = { λ f. ⟦<Each<Cards> as Filter>⟧.wants f.each };
+    ghost wants = { λ f. ⟦<Each<Cards> as Filter>⟧.wants f.cards };
 
-    ghost over = { λ f. ⟦<Each<Cards> as Filter>⟧.over f.each };
+    ghost over = { λ f. ⟦<Each<Cards> as Filter>⟧.over f.cards };
 
-    ghost laws = { λ f. each_laws 2 card_made f.each card_some };
+    ghost laws = { λ f. each_laws 2 card_made f.cards card_some };
 
     fn offer(&mut self, alloc: Global, input: u32, frame: Frame) -> Result<(), Returned> {
-        self.each.offer(alloc, input, frame)
+        self.cards.offer(alloc, input, frame)
     }
 
     fn finish(&mut self, input: u32) {
-        self.each.finish(input);
+        self.cards.finish(input);
     }
 
     fn give<R: Threads + Sync>(
@@ -133,14 +133,14 @@ impl Filter for Carded {
         slices: u32,
         output: u32,
     ) -> Result<Given, NoMemory> {
-        self.each.give(rt, alloc, slices, output)
+        self.cards.give(rt, alloc, slices, output)
     }
 
     fn needs(&self, input: u32) -> bool {
-        self.each.needs(input)
+        self.cards.needs(input)
     }
 
     fn closed(&self, input: u32) -> bool {
-        self.each.closed(input)
+        self.cards.closed(input)
     }
 }

@@ -1,13 +1,14 @@
 ghost use Rattle.std.specs.Prelude.{◌≡◌, ℕ, ◌≤◌, pos, IfOk};
 ghost use Rattle.av_base.specs.Shapes.{columns_of, IsLawful, IsVideo, IsWithinLimits};
 ghost use Rattle.av_frame.specs.FilterLaws.{one_to};
-ghost use Rattle.av_frame.specs.Whole.{IsReady};
+ghost use Rattle.av_filter.specs.Whole.{IsReady};
 
 use crate::cards::Carded;
 use crate::small_filters::FirstFrames;
 use crate::synced::Synced;
 use av_base::{Format, List, NoMemory, PixelFormat, Props, Ratio, Shape, TimeBase, VideoProps};
-use av_frame::{Edit, Filter, Frame, Given, Pools, filter_whole, history};
+use av_filter::{filter_whole, history};
+use av_frame::{Edit, Filter, Frame, Given, Pools};
 use std::alloc::Global;
 use std::thread::Threads;
 

@@ -1,7 +1,8 @@
 use av_base::{List, NoMemory, Text};
-use av_frame::{
-    NoOptions, OptionError, arguments_have_one_reading, read_flag, read_options, read_whole_within,
+use av_filter::{
+    NoOptions, arguments_have_one_reading, read_flag, read_options, read_whole_within,
 };
+use av_frame::OptionError;
 use av_text::Arg;
 
 #[test]

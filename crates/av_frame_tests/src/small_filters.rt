@@ -15,7 +15,7 @@ pub struct FirstFrames {
     /// How many are still to come.
     left: u64,
     waiting: VecDeque<Frame>,
-    finished: bool,
+    has_ended: bool,
 }
 
 impl FirstFrames {
@@ -26,7 +26,7 @@ impl FirstFrames {
         FirstFrames {
             left: count,
             waiting: VecDeque::new(alloc),
-            finished: false,
+            has_ended: false,
         }
     }
 }
@@ -41,17 +41,17 @@ impl Filter for FirstFrames {
 
     ghost pads = { λ f. one_to 1 };
 
-    ghost rest = { λ f. waiting_then f.waiting.items (f.finished || (f.left == 0)) (first_stream f.left) };
+    ghost rest = { λ f. waiting_then f.waiting.items (f.has_ended || (f.left == 0)) (first_stream f.left) };
 
     ghost accepts = { λ f i x. Unit {0} };
 
-    ghost closes = { λ f i. f.finished || (f.left == 0) };
+    ghost closes = { λ f i. f.has_ended || (f.left == 0) };
 
-    ghost wants = { λ f i. not (f.finished || (f.left == 0)) && is_empty f.waiting.items };
+    ghost wants = { λ f i. not (f.has_ended || (f.left == 0)) && is_empty f.waiting.items };
 
-    ghost over = { λ f o. (f.finished || (f.left == 0)) && is_empty f.waiting.items };
+    ghost over = { λ f o. (f.has_ended || (f.left == 0)) && is_empty f.waiting.items };
 
-    ghost laws = { λ f. one_laws f.waiting.items (f.finished || (f.left == 0)) (first_stream f.left) (first_laws f.left) };
+    ghost laws = { λ f. one_laws f.waiting.items (f.has_ended || (f.left == 0)) (first_stream f.left) (first_laws f.left) };
 
     fn offer(&mut self, alloc: Global, input: u32, frame: Frame) -> Result<(), Returned> {
         self.waiting.push_back(frame)?;
@@ -60,7 +60,7 @@ impl Filter for FirstFrames {
     }
 
     fn finish(&mut self, input: u32) {
-        self.finished = true;
+        self.has_ended = true;
     }
 
     fn give<R: Threads + Sync>(
@@ -72,16 +72,16 @@ impl Filter for FirstFrames {
     ) -> Result<Given, NoMemory> {
         match self.waiting.pop_front() {
             Some(frame) => Ok(Given::Frame(frame)),
-            None if self.finished || self.left == 0 => Ok(Given::End),
+            None if self.has_ended || self.left == 0 => Ok(Given::End),
             None => Ok(Given::Nothing),
         }
     }
 
     fn needs(&self, input: u32) -> bool {
-        !(self.finished || self.left == 0) && self.waiting.is_empty()
+        !(self.has_ended || self.left == 0) && self.waiting.is_empty()
     }
 
     fn closed(&self, input: u32) -> bool {
-        self.finished || self.left == 0
+        self.has_ended || self.left == 0
     }
 }

@@ -1,7 +1,8 @@
 -- What each call of a host does to its world.
-use Rattle.std.specs.Prelude.{◌≡◌, ◌≢◌, ◌<◌, ◌≤◌, ◌+◌, ◌-◌, ◌^◌, ℕ, true, false, List, [], ◌++◌, take, drop, length, Option, Some, None, Err, Result}
+use Rattle.std.specs.Prelude.{◌≡◌, ◌≢◌, ◌<◌, ◌≤◌, ◌+◌, ℕ, true, false, List, [], ◌++◌, take, drop, length, Option, Some, None, Err, Result}
 use Rattle.std.specs.Option.{ForSome}
 use Rattle.av_host.specs.World.{World, Inputs, Outputs, Faults}
+use Rattle.av_host.specs.Bounds.{last_count}
 use Rattle.av_host.specs.declared.host.HostError.{HostError}
 use Rattle.av_host.specs.declared.host.HostError.TheVariants.{Failed}
 
@@ -23,7 +24,7 @@ pub record Takes (old new : Inputs) (id : ℕ) (got : List ℕ) : Type 0 where
   pub left : ForSome (old.left id) (λ left. new.left id ≡ Some (drop (length got) left))
   pub begins : ForSome (old.left id) (λ left. left ≡ got ++ drop (length got) left)
 
--- A new output of this name, which is empty. An earlier id of the name is none any more.
+-- A new output of this name, which is empty. An earlier id of the name is no id any more.
 pub record AddsOutput (old new : Outputs) (name : List ℕ) (id : ℕ) : Type 0 where
   pub is_new : old.name id ≡ None
   pub here : new.name id ≡ Some name
@@ -47,7 +48,7 @@ appended piece bytes = bytes ++ piece
 abbrev pub patched : ℕ → List ℕ → List ℕ → List ℕ
 patched at piece bytes = take at bytes ++ piece ++ drop (at + length piece) bytes
 
--- Nothing changes but, it may be, the counts of faults.
+-- Nothing changes except perhaps the counts of faults.
 pub record Stays (old new : World) : Type 0 where
   pub held : new.held ≡ old.held
   pub inputs : new.inputs ≡ old.inputs
@@ -82,17 +83,17 @@ pub record Changes (old new : World) (id : ℕ) (change : List ℕ → List ℕ)
   pub outputs : Alters old.outputs new.outputs id change
   pub said : new.said ≡ old.said
 
--- What was said has grown by these bytes.
+-- What was printed has grown by these bytes.
 pub record Says (old new : World) (piece : List ℕ) : Type 0 where
   pub held : new.held ≡ old.held
   pub inputs : new.inputs ≡ old.inputs
   pub outputs : new.outputs ≡ old.outputs
   pub said : ForSome old.said (λ said. new.said ≡ Some (said ++ piece))
 
--- A count has risen. One that stands at its last value counts as risen.
+-- A count has risen. One that is at its last value counts as risen.
 pub record Rises (old new : ℕ) : Type 0 where
   pub later : old ≤ new
-  pub risen : old < 2 ^ 64 - 1 → old < new
+  pub risen : old < last_count → old < new
 
 -- Of the four counts this one has risen.
 pub record RaisesOpenings (old new : Faults) : Type 0 where
@@ -122,7 +123,7 @@ pub record RaisesSayings (old new : Faults) : Type 0 where
   pub writes : new.writes ≡ old.writes
   pub sayings : Rises old.sayings new.sayings
 
--- Only `Failed` touches the counts, and only its own.
+-- Only `Failed` changes the counts, and only its own.
 abbrev pub Counts : {T : Type 0} → (Faults → Faults → Type 0) → Result T HostError → Faults → Faults → Type 0
 Counts raises (Err Failed) old new = raises old new
 Counts raises other old new = new ≡ old

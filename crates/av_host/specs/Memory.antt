@@ -1,11 +1,11 @@
 -- What a host in memory means.
-use Rattle.std.specs.Prelude.{◌≡◌, ℕ, ◌+◌, ◌-◌, ◌^◌, min, List, nat_lt, length, drop, slice_get, string_bytes, Some, Err, Result, option_map, Bool, true, false, ◌==◌}
+use Rattle.std.specs.Prelude.{◌≡◌, ℕ, ◌+◌, ◌-◌, min, List, nat_lt, length, drop, slice_get, string_bytes, Some, Err, Result, option_map, Bool, true, false, ◌==◌}
 use Rattle.std.specs.List.{list_any}
 use Rattle.av_host.specs.World.{World, Inputs, Outputs, Faults}
+use Rattle.av_host.specs.Bounds.{said_room, last_count}
 use Rattle.av_host.specs.Named.{last_named, live_name}
 use Rattle.av_host.specs.declared.host.HostError.{HostError}
 use Rattle.av_host.specs.declared.host.HostError.TheVariants.{Failed}
-use Rattle.av_host.specs.declared.parts.TheConstants.{SAID_ROOM}
 use Rattle.av_host.specs.declared.parts.MemoryHost.{MemoryHost}
 use Rattle.av_host.specs.declared.parts.NamedBytes.{NamedBytes}
 use Rattle.av_host.specs.declared.parts.Source.{Source}
@@ -42,7 +42,7 @@ outputs_of made = record {
   content = λ name. Some (option_map bytes_of (last_named name_of made name));
 }
 
--- what the host means
+-- the world of a host in memory
 abbrev pub memory_world : MemoryHost → World
 memory_world m = record {
   held = λ name. option_map bytes_of (last_named name_of m.files.items name);
@@ -72,15 +72,15 @@ fails_now m = plan_fails m.plan
 abbrev pub read_bound : MemoryHost → ℕ
 read_bound m = m.read_bound
 
--- how many more bytes can be said
+-- how many more bytes can be printed
 abbrev pub room_to_say : MemoryHost → ℕ
-room_to_say m = SAID_ROOM - length m.said.bytes.items
+room_to_say m = said_room - length m.said.bytes.items
 
--- one more, up to the last value of a u64
+-- one more, up to the last value of a count
 abbrev pub raised : ℕ → ℕ
-raised n = min (n + 1) (2 ^ 64 - 1)
+raised n = min (n + 1) last_count
 
--- whether this is the answer of a fault
+-- whether the call failed
 abbrev pub is_failed : {T : Type 0} → Result T HostError → Bool
 is_failed (Err Failed) = true
 is_failed other = false

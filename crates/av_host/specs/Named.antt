@@ -6,7 +6,7 @@ abbrev pub or_else : {A : Type 0} → Option A → Option A → Option A
 or_else (Some x) o = Some x
 or_else None o = o
 
--- the value, where nothing stands in its place
+-- the value, if nothing comes in its place
 abbrev pub unless : {A B : Type 0} → Option A → B → Option B
 unless (Some x) y = None
 unless None y = Some y
@@ -16,7 +16,7 @@ abbrev pub last_named : {A : Type 0} → (A → List ℕ) → List A → List �
 last_named name [] n = None
 last_named name (x ∷ xs) n = or_else (last_named name xs n) (if bytes_eq (name x) n then Some x else None)
 
--- the name of the thing at this place, where no later one has it
+-- the name of the thing at this place, if no later one has it
 abbrev pub live_name : {A : Type 0} → (A → List ℕ) → List A → ℕ → Option (List ℕ)
 live_name name [] i = None
 live_name name (x ∷ xs) zero = unless (last_named name xs (name x)) (name x)

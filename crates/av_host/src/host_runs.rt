@@ -1,4 +1,4 @@
-//! Reads, writes and sayings that go on until all is done.
+//! Reads, writes and prints that go on until all is done.
 ghost use Rattle.std.specs.Prelude.{◌≡◌, ◌<◌, ◌≤◌, ◌+◌, ◌++◌, [], Some, Ok, take, length, IfOk, OnOk, OnErr, MatchResult, IsTrue, IsSome};
 ghost use Rattle.std.specs.Option.{ForSome};
 ghost use Rattle.av_host.specs.Calls.{Stays, Reads, Changes, Says, appended, Counts, RaisesReads, RaisesWrites, RaisesSayings};
@@ -27,7 +27,7 @@ pub fn fill<H: Host>(host: &mut H, id: u32, buf: &mut [u8]) -> Result<usize, Fai
     requires { IsTrue ((H.world host.old).inputs.is_open id) }
     ensures read { IfOk result (λ n. Reads (H.world host.old) (H.world host.new) id (take n buf.new)) }
     ensures fits { IfOk result (λ n. n ≤ length buf.new) }
-    // It stops short at the end alone.
+    // It stops short only at the end.
     ensures end { IfOk result (λ n. n < length buf.new → ForSome ((H.world host.old).inputs.left id) (λ _. (H.world host.new).inputs.left id ≡ Some [])) }
     ensures refused { OnErr result (ReadsSome (H.world host.old) (H.world host.new) id) }
     ensures faults { MatchResult result (λ _. (H.world host.new).faults ≡ (H.world host.old).faults)
@@ -58,7 +58,7 @@ pub fn write_all<H: Host>(host: &mut H, id: u32, piece: &[u8]) -> Result<(), Hos
     Ok(())
 }
 
-/// Says the line. A failure ends it.
+/// Prints the line. A failure ends it.
 pub fn say_all<H: Host>(host: &mut H, line: &[u8]) -> Result<(), Failed>
     ensures said { OnOk result (Says (H.world host.old) (H.world host.new) line.now) }
     ensures refused { OnErr result (SaysPart (H.world host.old) (H.world host.new) line.now) }

@@ -1,6 +1,7 @@
-//! A host in memory: how it is made, set and looked at.
+//! A host in memory: how it is made, set up and inspected.
 ghost use Rattle.std.specs.Prelude.{◌≡◌, ◌++◌, ◌+◌, ◌-◌, ◌^◌, ◌<◌, ◌≤◌, [], ◌∷◌, ℕ, List, Some, None, option_map, min, take, drop, length, false, IfOk, OnOk, OnErr};
 ghost use Rattle.av_host.specs.Calls.{ChangesAt, AddsInput, AddsOutput, patched, Rises};
+ghost use Rattle.av_host.specs.Bounds.{said_room};
 ghost use Rattle.av_host.specs.Named.{last_named};
 ghost use Rattle.av_host.specs.Memory.{memory_world, name_of, bytes_of, inputs_of, outputs_of, plan_fails, raised, calls_made, failing_calls, read_bound, KeepsCalls};
 
@@ -29,7 +30,7 @@ pub(crate) fn raise(count: &mut u64)
     *count = count.saturating_add(1);
 }
 
-/// Counts the call, and says whether it fails.
+/// Counts the call, and returns whether it fails.
 pub(crate) fn next_fails(plan: &mut CallPlan) -> bool
     ensures fails { result ≡ plan_fails plan.old }
     ensures made { plan.new.made ≡ raised plan.old.made }
@@ -49,10 +50,8 @@ pub(crate) fn add_source(sources: &mut Vec<Source>, bytes: Vec<u8>) -> Result<u3
     if id >= u32::MAX as usize {
         return Err(NoMemory);
     }
-    match sources.push(Source { bytes, at: 0 }) {
-        Ok(()) => Ok(id as u32),
-        Err(_) => Err(NoMemory),
-    }
+    sources.push(Source { bytes, at: 0 })?;
+    Ok(id as u32)
 }
 
 /// Gives the next bytes of an input, and no more than `most`.
@@ -88,15 +87,9 @@ pub(crate) fn add_made(
     if id >= u32::MAX as usize {
         return Err(NoMemory);
     }
-    let name = match String::from_str(alloc, name) {
-        Ok(name) => name,
-        Err(_) => return Err(NoMemory),
-    };
+    let name = String::from_str(alloc, name)?;
     let bytes = Vec::new(alloc);
-    match made.push(NamedBytes { name, bytes }) {
-        Ok(()) => {}
-        Err(_) => return Err(NoMemory),
-    }
+    made.push(NamedBytes { name, bytes })?;
     Ok(id as u32)
 }
 
@@ -105,10 +98,8 @@ pub(crate) fn append_to(made: &mut NamedBytes, piece: &[u8]) -> Result<(), NoMem
     ensures ok { OnOk result (bytes_of made.new ≡ bytes_of made.old ++ piece.now) }
     ensures err { OnErr result (bytes_of made.new ≡ bytes_of made.old) }
 {
-    match made.bytes.extend_from_slice(piece) {
-        Ok(()) => Ok(()),
-        Err(_) => Err(NoMemory),
-    }
+    made.bytes.extend_from_slice(piece)?;
+    Ok(())
 }
 
 fn patch_bytes(bytes: &mut [u8], at: usize, piece: &[u8])
@@ -127,9 +118,9 @@ pub(crate) fn patch_made(made: &mut NamedBytes, at: usize, piece: &[u8])
     patch_bytes(made.bytes.as_mut_slice(), at, piece);
 }
 
-/// Says what there is room for. It takes no memory, since the room is there.
+/// Prints what there is room for. It takes no memory, since the room is there.
 pub(crate) fn take_said(said: &mut Said, piece: &[u8]) -> usize
-    ensures count { result ≡ min (length piece.now) (SAID_ROOM - length said.old.bytes.items) }
+    ensures count { result ≡ min (length piece.now) (said_room - length said.old.bytes.items) }
     ensures bytes { said.new.bytes.items ≡ said.old.bytes.items ++ take result piece.now }
 {
     let n = piece.len().min(SAID_ROOM - said.bytes.len());
@@ -140,10 +131,10 @@ pub(crate) fn take_said(said: &mut Said, piece: &[u8]) -> usize
 }
 
 impl MemoryHost {
-    /// A host that holds no name, has no output, has said nothing and has failed at no call. No
+    /// A host that holds no name, has no output, has printed nothing and has failed at no call. No
     /// call was made, none is to fail, and reads have no bound.
     ///
-    /// It takes room for 65,536 bytes to be said. `NoMemory` is want of that memory.
+    /// It takes the room for all that can be printed (`said_room`).
     pub fn new(alloc: Global) -> Result<MemoryHost, NoMemory>
         ensures held { IfOk result (λ h. (name : List ℕ) → (memory_world h).held name ≡ None) }
         ensures inputs { IfOk result (λ h. (id : ℕ) → (memory_world h).inputs.is_open id ≡ false) }
@@ -158,10 +149,7 @@ impl MemoryHost {
         ensures failing { IfOk result (λ h. failing_calls h ≡ []) }
         ensures bound { IfOk result (λ h. read_bound h ≡ usize.MAX) }
     {
-        let bytes = match Vec::with_capacity(alloc, SAID_ROOM) {
-            Ok(bytes) => bytes,
-            Err(_) => return Err(NoMemory),
-        };
+        let bytes = Vec::with_capacity(alloc, SAID_ROOM)?;
         Ok(MemoryHost {
             alloc,
             files: Vec::new(alloc),
@@ -185,7 +173,7 @@ impl MemoryHost {
     /// Gives a name these bytes as an input, in place of any that it had. Open inputs keep what
     /// they have left.
     ///
-    /// `NoMemory` is want of memory for the name, the bytes or the list, and all stays.
+    /// At `NoMemory` all stays.
     pub fn add(&mut self, alloc: Global, name: &str, bytes: &[u8]) -> Result<(), NoMemory>
         ensures ok { OnOk result (ChangesAt
             (memory_world self.old).held (memory_world self.new).held name.now (Some bytes.now)) }
@@ -196,24 +184,15 @@ impl MemoryHost {
         ensures faults { (memory_world self.new).faults ≡ (memory_world self.old).faults }
         ensures calls { KeepsCalls self.old self.new }
     {
-        let name = match String::from_str(alloc, name) {
-            Ok(name) => name,
-            Err(_) => return Err(NoMemory),
-        };
-        let bytes = match Vec::from_slice(alloc, bytes) {
-            Ok(bytes) => bytes,
-            Err(_) => return Err(NoMemory),
-        };
-        match self.files.push(NamedBytes { name, bytes }) {
-            Ok(()) => {}
-            Err(_) => return Err(NoMemory),
-        }
+        let name = String::from_str(alloc, name)?;
+        let bytes = Vec::from_slice(alloc, bytes)?;
+        self.files.push(NamedBytes { name, bytes })?;
         Ok(())
     }
 
     /// That call of the host, counted from 0, fails too. The six calls of `Host` count alike.
     ///
-    /// `NoMemory` is want of memory for the list, and all stays.
+    /// At `NoMemory` all stays.
     pub fn fail_call(&mut self, _alloc: Global, call: u64) -> Result<(), NoMemory>
         ensures ok { OnOk result (failing_calls self.new ≡ failing_calls self.old ++ call ∷ []) }
         ensures err { OnErr result (failing_calls self.new ≡ failing_calls self.old) }
@@ -222,10 +201,8 @@ impl MemoryHost {
         ensures bound { read_bound self.new ≡ read_bound self.old }
     {
         // The list grows by the allocator that `new` was given.
-        match self.plan.failing.push(call) {
-            Ok(()) => Ok(()),
-            Err(_) => Err(NoMemory),
-        }
+        self.plan.failing.push(call)?;
+        Ok(())
     }
 
     /// No read gives more than this many bytes, from now on.
@@ -239,7 +216,7 @@ impl MemoryHost {
         self.read_bound = bytes;
     }
 
-    /// What the output of that name holds, and `None` exactly where none was created.
+    /// What the output of that name holds, and `None` exactly if none was created.
     pub fn output(&self, name: &str) -> Option<&[u8]>
         ensures { (memory_world self.now).outputs.content name.now
             ≡ Some (option_map (λ bytes. bytes.now) result) }
@@ -250,7 +227,7 @@ impl MemoryHost {
         }
     }
 
-    /// What was said.
+    /// What was printed.
     pub fn said(&self) -> &[u8]
         ensures { (memory_world self.now).said ≡ Some result.now }
     {

@@ -1,5 +1,5 @@
-//! The calls of a host in memory. Beside the trait's clauses each says exactly when it fails, how
-//! much it takes, and that it counts as one call.
+//! The calls of a host in memory. Besides the trait's clauses each states exactly when it fails,
+//! how much it takes, and that it counts as one call.
 ghost use Rattle.std.specs.Prelude.{◌≡◌, ◌+◌, ◌<◌, ◌≤◌, ◌||◌, ◌&&◌, [], ℕ, List, Some, take, drop, length, min, nat_lt, ◌==◌, is_none, is_err, IfOk, OnErr, MatchResult, IsTrue, IsSome};
 ghost use Rattle.std.specs.Option.{ForSome};
 ghost use Rattle.av_host.specs.Calls.{Stays, Opens, Reads, Creates, Changes, Says, appended, patched, Counts, RaisesOpenings, RaisesReads, RaisesWrites, RaisesSayings};
@@ -10,7 +10,6 @@ use crate::memory::{
     add_made, add_source, append_to, last_of, next_fails, patch_made, raise, take_from, take_said,
 };
 use crate::parts::{MemoryHost, SAID_ROOM};
-use av_base::NoMemory;
 
 impl Host for MemoryHost {
     ghost world = { memory_world };
@@ -32,19 +31,13 @@ impl Host for MemoryHost {
             return Err(HostError::Failed);
         }
         let bytes = match last_of(&self.files, name) {
-            Some(file) => match file.bytes.to_vec(self.alloc) {
-                Ok(bytes) => bytes,
-                Err(_) => return Err(HostError::NoMemory),
-            },
+            Some(file) => file.bytes.to_vec(self.alloc)?,
             None => {
                 raise(&mut self.counts.openings);
                 return Err(HostError::Failed);
             }
         };
-        match add_source(&mut self.sources, bytes) {
-            Ok(id) => Ok(id),
-            Err(NoMemory) => Err(HostError::NoMemory),
-        }
+        Ok(add_source(&mut self.sources, bytes)?)
     }
 
     fn read(&mut self, id: u32, buf: &mut [u8]) -> Result<usize, Failed>
@@ -91,10 +84,7 @@ impl Host for MemoryHost {
             raise(&mut self.counts.openings);
             return Err(HostError::Failed);
         }
-        match add_made(self.alloc, &mut self.made, name) {
-            Ok(id) => Ok(id),
-            Err(NoMemory) => Err(HostError::NoMemory),
-        }
+        Ok(add_made(self.alloc, &mut self.made, name)?)
     }
 
     fn write(&mut self, id: u32, piece: &[u8]) -> Result<usize, HostError>
@@ -118,10 +108,8 @@ impl Host for MemoryHost {
             return Err(HostError::Failed);
         }
         let made = &mut self.made[id as usize];
-        match append_to(made, piece) {
-            Ok(()) => Ok(piece.len()),
-            Err(NoMemory) => Err(HostError::NoMemory),
-        }
+        append_to(made, piece)?;
+        Ok(piece.len())
     }
 
     fn patch(&mut self, id: u32, at: u64, piece: &[u8]) -> Result<(), Failed>

@@ -1,10 +1,10 @@
 //! What a host keeps.
 ghost use Rattle.std.specs.Prelude.{◌<◌, ◌≤◌, length, vec_capacity};
-ghost use Rattle.av_host.specs.declared.parts.TheConstants.{SAID_ROOM};
+ghost use Rattle.av_host.specs.Bounds.{said_room};
 
 use std::alloc::Global;
 
-/// How many bytes a host in memory has room to say.
+/// How many bytes a host in memory has room to print.
 pub(crate) const SAID_ROOM: usize = 65536;
 
 /// A name and the bytes that it has.
@@ -22,12 +22,12 @@ pub struct Source {
     ghost within: { at ≤ length bytes.items },
 }
 
-/// What was said. All its room is there from the start, so that saying takes no memory.
+/// What was printed. All its room is there from the start, so that printing takes no memory.
 #[derive(Drop)]
 pub struct Said {
     pub(crate) bytes: Vec<u8>,
-    ghost reserved: { SAID_ROOM ≤ vec_capacity bytes },
-    ghost within: { length bytes.items ≤ SAID_ROOM },
+    ghost reserved: { said_room ≤ vec_capacity bytes },
+    ghost within: { length bytes.items ≤ said_room },
 }
 
 /// How often the outside has failed, by the kind of the call.
@@ -46,11 +46,11 @@ pub struct CallPlan {
     pub(crate) failing: Vec<u64>,
 }
 
-/// A host in memory, which tells everything. It can be set to fail at chosen calls, and to give
-/// little at each read.
+/// A host in memory, which knows everything. It can be set to fail at chosen calls, and to give
+/// few bytes at each read.
 ///
 /// It fails exactly at the calls that `fail_call` named, at an `open_input` of a name that was not
-/// added, and at a `say` that finds no room.
+/// added, and at a `say` that has no room left.
 #[derive(Drop)]
 pub struct MemoryHost {
     pub(crate) alloc: Global,

@@ -1,29 +1,23 @@
-//! A host over files and standard output. It tells no content.
-ghost use Rattle.std.specs.Prelude.{◌≡◌, ◌<◌, ◌≤◌, ℕ, List, None, false, length, string_bytes, IfOk, OnOk, OnErr};
-ghost use Rattle.av_host.specs.Calls.{Rises};
+//! A host over files and standard output. It knows no content.
+ghost use Rattle.std.specs.Prelude.{◌≡◌, ◌<◌, ◌≤◌, ℕ, List, None, false, length, string_bytes, IfOk, OnOk, OnErr, IfErr, IsErr};
+ghost use Rattle.av_host.specs.Calls.{Rises, Stays, Opens, Creates, Counts as IsCounted, RaisesOpenings};
 ghost use Rattle.av_host.specs.Memory.{faults_of, raised};
 ghost use Rattle.av_host.specs.Silent.{silent_world};
 
 use crate::host::{Failed, Host, HostError};
 use crate::memory::raise;
 use crate::parts::Counts;
+use crate::real_files::{NamedFile, create_apart, patch_output, read_input, write_output};
 use std::alloc::Global;
-use std::fs;
-use std::io::{self, Read, Seek, SeekFrom, Write};
 use std::rt::Files;
+use std::{fs, io};
 
-/// A file that was created, and its name.
-#[derive(Drop)]
-pub struct NamedFile<F> {
-    pub(crate) name: String,
-    pub(crate) file: F,
-}
-
-/// A host over the runtime's files and standard output, which tells no content. A name is a path.
+/// A host over the runtime's files and standard output, which knows no content. A name is a path.
 ///
-/// Each call is one call of the runtime, and `patch` a few; nothing is kept back. A call answers
-/// `Failed` exactly where the runtime answered a failure, or took no byte of a piece that isn't
-/// empty.
+/// `open_input`, `read`, `write` and `say` are one call of the runtime each, and nothing is kept in
+/// a buffer. A call returns `Failed` exactly if a call of the runtime failed or took no byte of a
+/// piece that isn't empty, or if the file of `create` is one of the open inputs. That file keeps
+/// its bytes.
 #[derive(Drop)]
 pub struct RealHost<R: Files + Print> {
     pub(crate) rt: R,
@@ -66,18 +60,20 @@ impl<R: Files + Print> Host for RealHost<R> {
     ghost world = { λ h. silent_world (λ o. string_bytes o.name)
         (length h.inputs.items) h.outputs.items (faults_of h.counts) };
 
-    fn open_input(&mut self, name: &str) -> Result<u32, HostError> {
+    fn open_input(&mut self, name: &str) -> Result<u32, HostError>
+        ensures opened { IfOk result (Opens (⟦<RealHost<R> as Host>⟧.world self.old) (⟦<RealHost<R> as Host>⟧.world self.new) name.now) }
+        ensures refused { OnErr result (Stays (⟦<RealHost<R> as Host>⟧.world self.old) (⟦<RealHost<R> as Host>⟧.world self.new)) }
+        ensures faults { IsCounted RaisesOpenings result (⟦<RealHost<R> as Host>⟧.world self.old).faults (⟦<RealHost<R> as Host>⟧.world self.new).faults }
+
+        ensures raises { result ≡ Err HostError.Failed
+            → (⟦<RealHost<R> as Host>⟧.world self.new).faults.openings ≡ raised (⟦<RealHost<R> as Host>⟧.world self.old).faults.openings }
+    {
         let id = self.inputs.len();
-        if id >= u32::MAX as usize || self.inputs.reserve(1).is_err() {
+        if id >= u32::MAX as usize {
             return Err(HostError::NoMemory);
         }
-        let file = match fs::open(&self.rt, name) {
-            Ok(file) => file,
-            Err(_) => {
-                raise(&mut self.counts.openings);
-                return Err(HostError::Failed);
-            }
-        };
+        self.inputs.reserve(1)?;
+        let file = opened(fs::open(&self.rt, name), &mut self.counts.openings)?;
         match self.inputs.push(file) {
             Ok(()) => Ok(id as u32),
             Err(_) => unreachable!(),
@@ -85,51 +81,43 @@ impl<R: Files + Print> Host for RealHost<R> {
     }
 
     fn read(&mut self, id: u32, buf: &mut [u8]) -> Result<usize, Failed> {
-        let file = &mut self.inputs[id as usize];
-        let answer = file.read(buf);
-        let n = moved(answer, 0, &mut self.counts.reads)?;
-        Ok(n)
+        let got = read_input(&mut self.inputs, id, buf);
+        moved(got, 0, &mut self.counts.reads)
     }
 
-    fn create(&mut self, name: &str) -> Result<u32, HostError> {
-        // All memory is taken first, so that no file is emptied for a call that is then refused.
+    fn create(&mut self, name: &str) -> Result<u32, HostError>
+        ensures created { IfOk result (Creates (⟦<RealHost<R> as Host>⟧.world self.old) (⟦<RealHost<R> as Host>⟧.world self.new) name.now) }
+        ensures refused { OnErr result (Stays (⟦<RealHost<R> as Host>⟧.world self.old) (⟦<RealHost<R> as Host>⟧.world self.new)) }
+        ensures faults { IsCounted RaisesOpenings result (⟦<RealHost<R> as Host>⟧.world self.old).faults (⟦<RealHost<R> as Host>⟧.world self.new).faults }
+
+        ensures raises { result ≡ Err HostError.Failed
+            → (⟦<RealHost<R> as Host>⟧.world self.new).faults.openings ≡ raised (⟦<RealHost<R> as Host>⟧.world self.old).faults.openings }
+    {
+        // All memory is taken first, so that out of memory leaves the file as it is.
         let id = self.outputs.len();
-        if id >= u32::MAX as usize || self.outputs.reserve(1).is_err() {
+        if id >= u32::MAX as usize {
             return Err(HostError::NoMemory);
         }
-        let text = match String::from_str(self.alloc, name) {
-            Ok(text) => text,
-            Err(_) => return Err(HostError::NoMemory),
-        };
-        let file = match fs::create(&self.rt, name) {
-            Ok(file) => file,
-            Err(_) => {
-                raise(&mut self.counts.openings);
-                return Err(HostError::Failed);
-            }
-        };
+        self.outputs.reserve(1)?;
+        let text = String::from_str(self.alloc, name)?;
+        let created = create_apart(&self.rt, name, self.inputs.as_slice());
+        let file = opened(created, &mut self.counts.openings)?;
         match self.outputs.push(NamedFile { name: text, file }) {
-            Ok(()) => {}
+            Ok(()) => Ok(id as u32),
             Err(_) => unreachable!(),
         }
-        Ok(id as u32)
     }
 
     fn write(&mut self, id: u32, piece: &[u8]) -> Result<usize, HostError> {
         if piece.is_empty() {
             return Ok(0);
         }
-        let output = &mut self.outputs[id as usize];
-        let answer = output.file.write(piece);
-        match moved(answer, 1, &mut self.counts.writes) {
-            Ok(n) => Ok(n),
-            Err(Failed) => Err(HostError::Failed),
-        }
+        let taken = write_output(&mut self.outputs, id, piece);
+        Ok(moved(taken, 1, &mut self.counts.writes)?)
     }
 
     fn patch(&mut self, id: u32, at: u64, piece: &[u8]) -> Result<(), Failed> {
-        let output = &mut self.outputs[id as usize];
-        if patch_file(&mut output.file, at, piece) {
+        if patch_output(&mut self.outputs, id, at, piece) {
             Ok(())
         } else {
             raise(&mut self.counts.writes);
@@ -141,33 +129,43 @@ impl<R: Files + Print> Host for RealHost<R> {
         if piece.is_empty() {
             return Ok(0);
         }
-        let answer = self.rt.write_some(piece);
-        let n = moved(answer, 1, &mut self.counts.sayings)?;
-        Ok(n)
+        let taken = self.rt.write_some(piece);
+        moved(taken, 1, &mut self.counts.sayings)
     }
 }
 
-/// How many bytes the runtime moved. A failure, or fewer bytes than `least`, is a fault.
-fn moved(answer: io::Result<usize>, least: usize, count: &mut u64) -> Result<usize, Failed>
-    ensures moved { IfOk result (λ n. answer ≡ Ok n) }
-    ensures enough { IfOk result (λ n. least ≤ n) }
-    ensures fault { OnErr result (IfOk answer (λ n. n < least)) }
+/// The file that the runtime opened. A failure is counted.
+fn opened<F>(file: io::Result<F>, count: &mut u64) -> Result<F, HostError>
+    ensures opened { IfOk result (λ f. file ≡ Ok f) }
+    ensures fault { OnErr result (IsErr file) }
+    ensures kind { IfErr result (λ e. e ≡ HostError.Failed) }
     ensures stays { OnOk result (count.new ≡ count.old) }
     ensures raises { OnErr result (count.new ≡ raised count.old) }
     ensures rises { OnErr result (Rises count.old count.new) }
 {
-    match answer {
-        Ok(n) if n >= least => Ok(n),
+    match file {
+        Ok(file) => Ok(file),
+        Err(_) => {
+            raise(count);
+            Err(HostError::Failed)
+        }
+    }
+}
+
+/// The number of bytes that the runtime moved. A failure, or fewer bytes than `lowest`, is counted.
+fn moved(bytes: io::Result<usize>, lowest: usize, count: &mut u64) -> Result<usize, Failed>
+    ensures moved { IfOk result (λ n. bytes ≡ Ok n) }
+    ensures enough { IfOk result (λ n. lowest ≤ n) }
+    ensures fault { OnErr result (IfOk bytes (λ n. n < lowest)) }
+    ensures stays { OnOk result (count.new ≡ count.old) }
+    ensures raises { OnErr result (count.new ≡ raised count.old) }
+    ensures rises { OnErr result (Rises count.old count.new) }
+{
+    match bytes {
+        Ok(n) if n >= lowest => Ok(n),
         _ => {
             raise(count);
             Err(Failed)
         }
     }
-}
-
-/// Writes over bytes, and goes back to the end, also where the writing failed.
-fn patch_file<F: Write + Seek>(file: &mut F, at: u64, piece: &[u8]) -> bool {
-    let written = file.seek(SeekFrom::Start(at)).is_ok() && file.write_all(piece).is_ok();
-    let at_end = file.seek(SeekFrom::End(0)).is_ok();
-    written && at_end
 }

@@ -1,10 +1,9 @@
-//! What a program sees of the hosts, by hand-made values.
+//! Calls of the host in memory, on values made by hand.
 ghost use Rattle.std.specs.Prelude.{◌≡◌, ◌≤◌, Some, length, IfOk, IsTrue, IsSome};
 ghost use Rattle.av_host.specs.Memory.{memory_world};
 
-use crate::{Failed, Host, HostError, MemoryHost, RealHost};
+use crate::{Failed, Host, HostError, MemoryHost};
 use std::alloc::Global;
-use std::fs;
 use std::process::Abort;
 use std::test::Fail;
 
@@ -23,10 +22,11 @@ fn holds(host: &MemoryHost, name: &str, bytes: &[u8]) -> bool {
     }
 }
 
-/// One read. Whatever it answers, the input stays open.
-fn read_once<H: Host>(host: &mut H, id: u32, buf: &mut [u8]) -> Result<usize, Failed>
+/// One read. Whatever it returns, all open inputs stay open.
+pub(crate) fn read_once<H: Host>(host: &mut H, id: u32, buf: &mut [u8]) -> Result<usize, Failed>
     requires { IsTrue ((H.world host.old).inputs.is_open id) }
     ensures open { IsTrue ((H.world host.new).inputs.is_open id) }
+    ensures others { (H.world host.new).inputs.is_open ≡ (H.world host.old).inputs.is_open }
     ensures fits { IfOk result (λ n. n ≤ length buf.new) }
 {
     match host.read(id, buf) {
@@ -35,8 +35,13 @@ fn read_once<H: Host>(host: &mut H, id: u32, buf: &mut [u8]) -> Result<usize, Fa
     }
 }
 
-/// One write. Whatever it answers, the output keeps its name.
-fn write_once<H: Host>(host: &mut H, id: u32, name: &str, piece: &[u8]) -> Result<usize, HostError>
+/// One write. Whatever it returns, the output keeps its name.
+pub(crate) fn write_once<H: Host>(
+    host: &mut H,
+    id: u32,
+    name: &str,
+    piece: &[u8],
+) -> Result<usize, HostError>
     requires { (H.world host.old).outputs.name id ≡ Some name.now }
     ensures { (H.world host.new).outputs.name id ≡ Some name.now }
 {
@@ -46,7 +51,7 @@ fn write_once<H: Host>(host: &mut H, id: u32, name: &str, piece: &[u8]) -> Resul
     }
 }
 
-/// One patch of bytes that were written. Whatever it answers, the output keeps its name.
+/// One patch of bytes that were written. Whatever it returns, the output keeps its name.
 fn patch_once(
     rt: &impl Abort,
     host: &mut MemoryHost,
@@ -68,13 +73,13 @@ fn patch_once(
 
 /// The counts and the bytes of some reads.
 #[derive(Drop)]
-struct Pieces {
-    counts: Vec<usize>,
-    bytes: Vec<u8>,
+pub(crate) struct Pieces {
+    pub(crate) counts: Vec<usize>,
+    pub(crate) bytes: Vec<u8>,
 }
 
 /// Reads six times into a buffer of four bytes.
-fn read_pieces<H: Host>(
+pub(crate) fn read_pieces<H: Host>(
     rt: &impl Abort,
     alloc: Global,
     host: &mut H,
@@ -178,22 +183,5 @@ fn saying_ends_at_65536_bytes(rt: HostRuntime) -> Result<(), Fail> {
     assert_eq!(rt; host.say(b"y"), Err(Failed));
     assert_eq!(rt; host.say(b""), Ok(0));
     assert_eq!(rt; host.said().len(), 65536);
-    Ok(())
-}
-
-#[test]
-fn real_files_are_written_patched_and_read_back(rt: HostRuntime) -> Result<(), Fail> {
-    let mut host = RealHost::new(&rt, rt.alloc());
-    assert_eq!(rt; host.open_input("file"), Err(HostError::Failed));
-    assert_eq!(rt; host.create("none/file"), Err(HostError::Failed));
-    let output = host.create("file").ok().expect(&rt, "an id");
-    assert_eq!(rt; write_once(&mut host, output, "file", b"abc"), Ok(3));
-    assert_eq!(rt; host.patch(output, 1, b"X"), Ok(()));
-    let input = host.open_input("file").ok().expect(&rt, "an id");
-    let pieces = read_pieces(&rt, rt.alloc(), &mut host, input)?;
-    assert_eq!(rt; pieces.counts.as_slice(), [3, 0, 0, 0, 0, 0].as_slice());
-    assert_eq!(rt; pieces.bytes.as_slice(), b"aXc".as_slice());
-    assert_eq!(rt; host.say(b"said\n"), Ok(5));
-    fs::remove_file(&rt, "file")?;
     Ok(())
 }

@@ -1,5 +1,5 @@
 -- A text is one list of arguments at most, or has one fault.
-use Rattle.std.proofs.Common.{◌≡◌, ◌≢◌, ◌<◌, ◌≤◌, ◌+◌, ◌-◌, ◌⊎◌, ℕ, zero, suc, List, [], ◌∷◌, ◌++◌, Option, Some, None, Result, Err, length, get_or, drop, take, refl, sym, ◌∙◌, ap, subst, arith, inl, inr, append_assoc}
+use Rattle.std.proofs.Common.{◌≡◌, ◌≢◌, ◌<◌, ◌≤◌, ◌+◌, ◌-◌, ◌⊎◌, ℕ, zero, suc, List, [], ◌∷◌, ◌++◌, Option, Some, None, length, get_or, drop, take, refl, sym, ◌∙◌, ap, subst, arith, inl, inr, append_assoc}
 use Rattle.std.specs.List.{flat_map, Contains}
 use Rattle.std.specs.Str.{IsUtf8, IsCharBoundary}
 use Rattle.std.proofs.lemmas.List.{length-append, length-drop, take-append-drop, drop-drop, drop_more, drop_all, append-nil}
@@ -7,17 +7,16 @@ use Rattle.std.specs.Prelude.{encode_utf8}
 use Rattle.std.proofs.lemmas.Str.{encode_ascii, IsCharBoundary-start, IsCharBoundary-after_ascii}
 use Rattle.av_text.specs.Classes.{is_white, is_name, IsRun}
 use Rattle.av_text.specs.Tokens.{source, Ends, IsToken}
-use Rattle.av_text.specs.Faults.{IsBroken, IsTokenFault, IsFaultAt, IfFault, Gives, Refuses}
+use Rattle.av_text.specs.Faults.{IsBroken, IsTokenFault, IsFaultAt}
 use Rattle.av_text.specs.Arguments.{BeginsNamed, IsUnnamed, BeginsArg, IsArg, AreArgs, IsArgFault, FailsBehind, IsArgsFault}
 use Rattle.av_text.specs.declared.arguments.Arg.{Arg}
 use Rattle.av_text.specs.declared.fault.TextKind.{TextKind}
 use Rattle.av_text.specs.declared.fault.TextFault.{TextFault}
-use Rattle.av_text.specs.declared.fault.TextError.{TextError}
-use Rattle.av_text.specs.declared.fault.TextError.TheVariants.{Fault, NoMemory}
 use Rattle.av_text.specs.declared.fault.TextKind.TheVariants.{UnclosedQuote, LoneEscape, ExpectedName, BadLabel, Stray}
 use Rattle.av_text.proofs.Runs.{same_run}
 use Rattle.av_text.proofs.TokenLemmas.{rest_at}
-use Rattle.av_text.proofs.ReadingLemmas.{cons_parts, one_token, one_fault, not_both}
+use Rattle.av_text.proofs.ReadingLemmas.{one_token, one_fault, not_both}
+use Rattle.av_base.proofs.Lists.{cons_parts}
 
 -- ---- names
 
@@ -42,11 +41,11 @@ token_front {specials} {text} {value} {rest} t =
     let r = t.is_row in
     (r.lead ++ flat_map source t.row, r.begins.text_is ∙ sym (append_assoc r.lead (flat_map source t.row) rest))
 
-behind_front : {text b rest : List ℕ} → (front : List ℕ) × (text ≡ front ++ b) → (front : List ℕ) × (b ≡ front ++ rest) → (front : List ℕ) × (text ≡ front ++ rest)
-behind_front {text} {b} {rest} x y = (x.0 ++ y.0, x.1 ∙ ap (λ (xs : List ℕ). x.0 ++ xs) y.1 ∙ sym (append_assoc x.0 y.0 rest))
+after_front : {text b rest : List ℕ} → (front : List ℕ) × (text ≡ front ++ b) → (front : List ℕ) × (b ≡ front ++ rest) → (front : List ℕ) × (text ≡ front ++ rest)
+after_front {text} {b} {rest} x y = (x.0 ++ y.0, x.1 ∙ ap (λ (xs : List ℕ). x.0 ++ xs) y.1 ∙ sym (append_assoc x.0 y.0 rest))
 
 pub arg_front : (text : List ℕ) (name : Option (List ℕ)) (value rest : List ℕ) → BeginsArg text name value rest → (front : List ℕ) × (text ≡ front ++ rest)
-arg_front text (Some name) value rest h = behind_front (named_front h.1) (token_front h.2)
+arg_front text (Some name) value rest h = after_front (named_front h.1) (token_front h.2)
 arg_front text None value rest h = token_front h.1
 
 arg_same : (text : List ℕ) (n m : Option (List ℕ)) (v w r s : List ℕ) → BeginsArg text n v r → BeginsArg text m w s → (n ≡ m) × (v ≡ w) × (r ≡ s)
@@ -145,7 +144,7 @@ args_or_fault text (a ∷ xs) (b ∷ ys) k bad p q =
 
 -- ---- no name
 
--- the run behind white space is empty
+-- the run after white space is empty
 pub no_name : {text lead named name spaced : List ℕ} → IsRun is_white text lead named → IsRun is_name named name spaced → length name ≡ 0 → IsUnnamed text
 no_name {text} {lead} {named} {name} {spaced} p q empty n b h =
     let same = (same_run is_white p h.lead_is).1 in
@@ -153,7 +152,7 @@ no_name {text} {lead} {named} {name} {spaced} p q empty n b h =
     let some = h.some in
     omega (arith, ap length e)
 
--- no `=` stands behind the name
+-- no `=` is after the name
 pub no_mark : {text lead named name spaced gap marked : List ℕ} → IsRun is_white text lead named → IsRun is_name named name spaced → IsRun is_white spaced gap marked
     → ((rest : List ℕ) → marked ≢ encode_utf8 61 ++ rest) → IsUnnamed text
 no_mark {text} {lead} {named} {name} {spaced} {gap} {marked} p q r none n b h =
@@ -162,22 +161,9 @@ no_mark {text} {lead} {named} {name} {spaced} {gap} {marked} p q r none n b h =
     let mark = (same_run is_white (rw e at r) h.gap_is).1 in
     none b (mark ∙ ap (λ (xs : List ℕ). xs ++ b) (sym (encode_ascii 61 (omega arith))))
 
--- ---- a fault that is handed on
-
-fault_of : (X Y : Type 0) (e : TextError) (P Q : TextFault → Type 0) → ((f : TextFault) → P f → Q f) → IfFault {X = X} (Err e) P → IfFault {X = Y} (Err e) Q
-fault_of X Y (Fault f) P Q h p = h f p
-fault_of X Y NoMemory P Q h p = tt
-
-pub fault_handed : {X Y : Type 0} (r : Result X TextError) (q : Result Y TextError) (e y : TextError) → r ≡ Err e → q ≡ Err y → y ≡ e → (P Q : TextFault → Type 0) → ((f : TextFault) → P f → Q f) → IfFault r P → IfFault q Q
-fault_handed {X = X} {Y = Y} r q e y was is same P Q h p = rw (is, same) (fault_of X Y e P Q h (rw was at p))
-
--- the fault that was answered
-pub fault_found : {X : Type 0} (q : Result X TextError) (e : TextError) (f : TextFault) (P : TextFault → Type 0) → q ≡ Err e → e ≡ Fault f → IfFault q P → P f
-fault_found q e f P is same h = rw (is, same) at h
-
 -- ---- places
 
--- what stands behind a name begins at its place in the whole text
+-- what is after a name begins at its place in the whole text
 pub named_place : (args : List ℕ) (place : ℕ) {name behind : List ℕ} → BeginsNamed (drop place args) name behind → drop (length args - length behind) args ≡ behind
 named_place args place {name} {behind} h =
     let f = named_front h in
@@ -212,7 +198,7 @@ next_rest text more end e = sym (drop-drop 1 end text) ∙ ap (drop 1) e
 last_rest : (text : List ℕ) (end : ℕ) → drop end text ≡ [] → drop (end + 1) text ≡ []
 last_rest text end e = sym (drop-drop 1 end text) ∙ ap (drop 1) e
 
--- arguments were read up to a place: whatever stands behind it completes them
+-- arguments were read up to a place: whatever is after it completes them
 pub record Listed (text : List ℕ) (args : List Arg) (place : ℕ) : Type 0 where
   pub boundary : place ≤ length text → IsCharBoundary text place
   pub reads : (more : List Arg) → AreArgs (drop place text) more → AreArgs text (args ++ more)
@@ -260,22 +246,6 @@ listed_all {text} {args} {place} l over = rw append-nil at (l.reads [] (drop_all
 -- no argument begins there
 pub listed_fault : {text : List ℕ} {args : List Arg} {place : ℕ} (k : TextKind) (bad : List ℕ) → Listed text args place → IsArgFault (drop place text) k bad → IsArgsFault text k bad
 listed_fault {text} {args} {place} k bad l f = (args, rw append-nil at (l.fails [] k bad f))
-
--- ---- what is answered at an error
-
-no_gives : (X : Type 0) (e : TextError) (P : X → Type 0) → IfFault {X = X} (Err e) (λ f. ⊥) → Gives {X = X} P (Err e)
-no_gives X (Fault f) P h = h
-no_gives X NoMemory P h = tt
-
-pub error_gives : {X : Type 0} (q : Result X TextError) (e : TextError) (P : X → Type 0) → q ≡ Err e → IfFault q (λ f. ⊥) → Gives P q
-error_gives {X = X} q e P is h = rw is (no_gives X e P (rw is at h))
-
-some_refuses : (X : Type 0) (e : TextError) (P : TextFault → Type 0) → IfFault {X = X} (Err e) P → Refuses {X = X} P (Err e)
-some_refuses X (Fault f) P h = h
-some_refuses X NoMemory P h = tt
-
-pub error_refuses : {X : Type 0} (q : Result X TextError) (e : TextError) (P : TextFault → Type 0) → q ≡ Err e → IfFault q P → Refuses P q
-error_refuses {X = X} q e P is h = rw is (some_refuses X e P (rw is at h))
 
 pub same_fault : (text : List ℕ) (kind : TextKind) (bad : List ℕ) (f : TextFault) → (other : List ℕ) × IsArgsFault text f.kind other × (f.at + length other ≡ length text) → IsArgsFault text kind bad → IsFaultAt text kind bad f
 same_fault text kind bad f h g =

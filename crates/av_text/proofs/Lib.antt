@@ -6,6 +6,6 @@ pub mod TokenLemmas
 pub mod ReadingLemmas
 pub mod ArgLemmas
 pub mod TotalLemmas
-mod NumberLemmas
+pub mod NumberLemmas
 mod TimeLemmas
 mod SlowLemmas

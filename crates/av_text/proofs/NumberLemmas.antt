@@ -1,5 +1,5 @@
 -- A text has one number or ratio at most.
-use Rattle.std.proofs.Common.{◌≡◌, ◌+◌, ◌*◌, ◌-◌, ◌/◌, ◌<◌, ◌≤◌, ◌^◌, ◌||◌, ◌⊎◌, ℕ, zero, suc, ℤ, Bool, true, false, cond, nat_eq, List, [], ◌∷◌, ◌++◌, codes, take, drop, length, get_or, Option, Some, None, IfSome, refl, sym, ◌∙◌, ap, subst, inl, inr, lit<, arith}
+use Rattle.std.proofs.Common.{◌≡◌, ◌+◌, ◌*◌, ◌-◌, ◌<◌, ◌≤◌, ◌^◌, ◌||◌, ◌⊎◌, ℕ, suc, ℤ, Bool, true, false, cond, nat_eq, List, [], ◌∷◌, ◌++◌, codes, take, drop, length, get_or, Option, Some, None, IfSome, refl, sym, ◌∙◌, ap, subst, inl, inr, lit<, arith}
 use Rattle.std.specs.Prelude.{IsNone}
 use Rattle.std.specs.Char.{digit_value}
 use Rattle.std.specs.Int.{IsInRange}
@@ -8,16 +8,17 @@ use Rattle.std.specs.Str.Parse.{AllDigits, digits_value}
 use Rattle.std.proofs.lemmas.Bool.{ltb-true, lt-ltb}
 use Rattle.std.proofs.lemmas.Int.Digits.{digits_value_more}
 use Rattle.std.proofs.lemmas.List.{append-nil, take_all}
-use Rattle.std.proofs.lemmas.Nat.Gcd.{same_from_IsGcd}
 use Rattle.std.proofs.lemmas.Str.{digit_value_digit}
-use Rattle.std.proofs.lemmas.Str.Parse.{IsNumeralModel, numerals_by_value, tells_digits, digits_value_short}
-use Rattle.std.proofs.Math.Nat.{mul-div_cancel, one-le-pow}
+use Rattle.std.proofs.lemmas.Str.Parse.{digits_value_short}
+use Rattle.std.proofs.Math.Nat.{one-le-pow}
 use Rattle.av_base.specs.declared.numbers.Ratio.{Ratio}
 use Rattle.av_base.specs.Reduced.{IsReduced}
 use Rattle.av_text.specs.Classes.{is_digit, Stops, IsRun}
 use Rattle.av_text.specs.Numbers.{IsSigned, IsRateWord, Spells}
 use Rattle.av_text.specs.NumberParts.{IsUnsigned, signed_of, AreParts}
 use Rattle.av_text.proofs.Runs.{same_run}
+use Rattle.av_base.proofs.Arithmetic.{are_numerals}
+use Rattle.av_base.proofs.Ratios.{reduced_unique}
 
 -- ---- texts by their first byte
 
@@ -34,11 +35,8 @@ value_more text i value h r e =
     let same = digit_value_digit (get_or text i 0) r in
     omega arith
 
-own : IsNumeralModel (AllDigits 10) (digits_value 10)
-own = numerals_by_value (AllDigits 10) tells_digits
-
 pub value_below : (ds : List ℕ) (k : ℕ) → AllDigits 10 ds → length ds ≤ k → digits_value 10 ds < 10 ^ k
-value_below ds k all h = digits_value_short own ds k all h
+value_below ds k all h = digits_value_short are_numerals ds k all h
 
 pub run_of_digits : (ds rest : List ℕ) → AllDigits 10 ds → Stops is_digit rest → IsRun is_digit (ds ++ rest) ds rest
 run_of_digits ds rest all stops = record { text_is = refl; each = each ds all; whole = stops } where
@@ -50,7 +48,7 @@ pub digits_of_run : (ds : List ℕ) → AllByRecursion (λ c. is_digit c ≡ tru
 digits_of_run [] each = tt
 digits_of_run (c ∷ ds) each = (ltb-true (digit_value c) 10 each.0, digits_of_run ds each.1)
 
--- the digits that a text begins with, and what is behind them
+-- the digits that a text begins with, and what is after them
 pub digits_here : {text front rest ds left : List ℕ} → IsRun is_digit text front rest → text ≡ ds ++ left → AllDigits 10 ds → Stops is_digit left → (ds ≡ front) × (left ≡ rest)
 digits_here {text} {front} {rest} {ds} {left} run e all stops =
     let same : IsRun is_digit (ds ++ left) front rest = rw e at run in
@@ -130,7 +128,7 @@ word_only word (Spells.Word other) =
 
 -- ---- ratios
 
--- The digits and the text behind them tell the two numbers.
+-- the digits and the text after them give the two numbers
 pub parts_here : {text above tail : List ℕ} {num den : ℕ} → IsRun is_digit text above tail → (IsRateWord text num den → ⊥) → Spells text num den → AreParts above tail num den
 parts_here {text} run none (Spells.Whole number one) =
     let same = digits_here run (sym (append-nil text)) number.digits tt in
@@ -167,23 +165,7 @@ some_below (Spells.Word IsRateWord.ntsc_film) = lit< tt
 
 -- ---- lowest terms
 
-same_parts : (x y g n : ℕ) → x * g ≡ n → y * g ≡ n → 0 < g → x ≡ y
-same_parts x y g n e f some = sym (mul-div_cancel x {n = g} some) ∙ (ap (λ (m : ℕ). m / g) (e ∙ sym f) ∙ mul-div_cancel y {n = g} some)
-
-some_divisor : (x y n : ℕ) → x * y ≡ n → 0 < n → 0 < y
-some_divisor x zero n e h = absurd (omega arith)
-some_divisor x (suc y) n e h = omega arith
-
--- two numbers have one ratio
-reduced_unique : {num den : ℕ} {r s : Ratio} → 0 < den → IsReduced num den r → IsReduced num den s → r ≡ s
-reduced_unique {num} {den} {r} {s} some a b =
-    let same = same_from_IsGcd num den a.divisor b.divisor a.greatest b.greatest in
-    let positive : 0 < a.divisor = some_divisor r.den a.divisor den a.den_is some in
-    let nums : r.num ≡ s.num = same_parts r.num s.num a.divisor num a.num_is (ap (λ (g : ℕ). s.num * g) same ∙ b.num_is) positive in
-    let dens : r.den ≡ s.den = same_parts r.den s.den a.divisor den a.den_is (ap (λ (g : ℕ). s.den * g) same ∙ b.den_is) positive in
-    ap (λ (n : ℕ). record r { num = n }) nums ∙ ap (λ (n : ℕ). record s { den = n }) dens
-
 pub reduced_only : {num den : ℕ} {r : Ratio} (o : Option Ratio) → 0 < den → IfSome o (IsReduced num den) → (IsNone o → (r : Ratio) → IsReduced num den r → ⊥)
     → IsReduced num den r → o ≡ Some r
 reduced_only {r = r} None some found none h = absurd (none refl r h)
-reduced_only (Some s) some found none h = ap Some (reduced_unique some found h)
+reduced_only (Some s) some found none h = ap Some (reduced_unique (omega arith) found h)

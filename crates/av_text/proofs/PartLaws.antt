@@ -7,7 +7,7 @@ pub record Lawful {X K : Type 0} (P : Part X) (F : NoPart K) : Type 0 where
   pub fault : {text r s : List ℕ} {k l : K} → F text k r → F text l s → (k ≡ l) × (r ≡ s)
   pub apart : {text r s : List ℕ} {x : X} {k : K} → P text x r → F text k s → ⊥
 
--- ---- two parts, one behind the other
+-- ---- two parts, one after the other
 
 abbrev pub Pair : {X Y : Type 0} → Part X → Part Y → Part (X × Y)
 Pair P Q text z rest = (middle : List ℕ) × P text z.0 middle × Q middle z.1 rest

@@ -43,13 +43,13 @@ pub special_ends : (specials text rest : List ℕ) (c : ℕ) → IsAscii special
 special_ends specials text rest c ascii e other another h =
     rw (ascii_front text rest c c e refl (special_low specials c ascii h)) (other, another, h)
 
--- more of a piece behind its first byte
+-- more of a piece after its first byte
 pub piece_begins : (specials text behind rest : List ℕ) (piece : Piece) (mark : ℕ) → text ≡ mark ∷ behind → BeginsPiece specials (mark ∷ behind) piece rest → BeginsPiece specials text piece rest
 piece_begins specials text behind rest piece mark e h = (h.0, h.1, e ∙ h.2)
 
--- what stands behind a mark
-pub behind_mark : (mark : ℕ) (text before behind : List ℕ) → mark < 128 → IsUtf8 text → text ≡ before ++ mark ∷ behind → IsUtf8 behind
-behind_mark mark text before behind low u e =
+-- what is after a mark
+pub after_mark : (mark : ℕ) (text before behind : List ℕ) → mark < 128 → IsUtf8 text → text ≡ before ++ mark ∷ behind → IsUtf8 behind
+after_mark mark text before behind low u e =
     let n = length before in
     let at : get_or text n 0 ≡ mark = ap (λ (xs : List ℕ). get_or xs n 0) e ∙ get_or_at before mark behind 0 n refl in
     let fits : n < length text = omega (arith, ap length e, length-append before (mark ∷ behind)) in

@@ -9,7 +9,7 @@ use Rattle.av_text.proofs.Runs.{same_run}
 use Rattle.av_text.proofs.TokenLemmas.{rest_at, place_boundary}
 use Rattle.av_text.specs.Parts.{Skips, Lacks, IsPlace}
 
--- what stands behind a front that begins at a place begins at its own place
+-- what is after a front that begins at a place begins at its own place
 pub later_rest : (text : List ℕ) (place : ℕ) (front rest : List ℕ) → drop place text ≡ front ++ rest → drop (length text - length rest) text ≡ rest
 later_rest text place front rest e =
     rest_at text (take place text ++ front) rest (sym (take-append-drop place text) ∙ ap (λ (xs : List ℕ). take place text ++ xs) e ∙ sym (append_assoc (take place text) front rest))
@@ -52,7 +52,7 @@ pub begins_test : (mark : ℕ) (text : List ℕ) → 0 < mark → true ≡ (slic
 begins_test mark [] some e = absurd (let h = eqb-true 0 mark (sym e) in omega arith)
 begins_test mark (c ∷ text) some e = (text, ap (λ (x : ℕ). x ∷ text) (eqb-true c mark (sym e)))
 
--- the text at a place begins with a mark, and this is what stands behind it
+-- the text at a place begins with a mark, and this is what is after it
 pub begins_at : (mark : ℕ) (text : List ℕ) (place : ℕ) → 0 < mark → true ≡ (slice_index (drop place text) 0 == mark) → drop place text ≡ mark ∷ drop (place + 1) text
 begins_at mark text place some e =
     let h = begins_test mark (drop place text) some e in

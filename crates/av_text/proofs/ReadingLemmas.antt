@@ -9,28 +9,26 @@ use Rattle.av_text.specs.Faults.{IsBroken, IsTokenFault}
 use Rattle.av_text.specs.declared.fault.TextKind.{TextKind}
 use Rattle.av_text.specs.declared.fault.TextKind.TheVariants.{UnclosedQuote, LoneEscape, ExpectedName, BadLabel, Stray}
 use Rattle.av_text.proofs.Runs.{same_run}
+use Rattle.av_base.proofs.Lists.{cons_parts}
 
 -- ---- up to a mark
 
-none_behind : (mark x : ℕ) (xs : List ℕ) → ¬ Contains (x ∷ xs) mark → ¬ Contains xs mark
-none_behind mark x xs none = λ h. none (suc h.0, omega (arith, h.1), h.2)
+none_after : (mark x : ℕ) (xs : List ℕ) → ¬ Contains (x ∷ xs) mark → ¬ Contains xs mark
+none_after mark x xs none = λ h. none (suc h.0, omega (arith, h.1), h.2)
 
 none_first : (mark x : ℕ) (xs : List ℕ) → ¬ Contains (x ∷ xs) mark → x ≢ mark
 none_first mark x xs none = λ e. none (0, omega arith, e)
 
--- what stands before the first mark, and behind it
+-- what is before the first mark, and after it
 pub mark_unique : (mark : ℕ) (xs ys r s : List ℕ) → ¬ Contains xs mark → ¬ Contains ys mark → xs ++ mark ∷ r ≡ ys ++ mark ∷ s → (xs ≡ ys) × (r ≡ s)
 mark_unique mark [] [] r s p q e = (refl, cc)
 mark_unique mark [] (y ∷ ys) r s p q e = absurd (none_first mark y ys q cc)
 mark_unique mark (x ∷ xs) [] r s p q e = absurd (none_first mark x xs p cc)
 mark_unique mark (x ∷ xs) (y ∷ ys) r s p q e =
-    let t = mark_unique mark xs ys r s (none_behind mark x xs p) (none_behind mark y ys q) cc in
+    let t = mark_unique mark xs ys r s (none_after mark x xs p) (none_after mark y ys q) cc in
     (let h = t.0 in cc, t.1)
 
 -- ---- the first piece
-
-pub cons_parts : {x y : ℕ} {xs ys : List ℕ} → x ∷ xs ≡ y ∷ ys → (x ≡ y) × (xs ≡ ys)
-cons_parts e = (cc, cc)
 
 marks_differ : {x y : ℕ} {xs ys : List ℕ} → x ≡ 92 → y ≡ 39 → x ∷ xs ≡ y ∷ ys → ⊥
 marks_differ a b e = let h = (cons_parts e).0 in omega arith
@@ -51,7 +49,7 @@ same_piece specials (Quoted c) (Plain d) r s a b e = absurd (b.1 (sym (cons_part
 same_piece specials (Quoted c) (Escaped d) r s a b e = absurd (marks_differ refl refl (sym e))
 same_piece specials (Quoted c) (Quoted d) r s a b e = quoted_same c d r s a b e
 
--- ---- where a row of pieces ends: at the end, before a special, or where what is left is broken
+-- ---- the end of a row of pieces: at the end, before a special, or before what is broken
 abbrev pub Halts : List ℕ → List ℕ → Type 0
 Halts specials [] = Unit {0}
 Halts specials (c ∷ more) = ((c ≢ 92) × (c ≢ 39) × Contains specials c) ⊎ (((c ≡ 39) × ¬ Contains more 39) ⊎ ((c ≡ 92) × (more ≡ [])))

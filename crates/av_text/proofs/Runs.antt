@@ -79,7 +79,7 @@ run_last class [] i h a = absurd (omega arith)
 run_last class (x ∷ xs) zero h a = a.0
 run_last class (x ∷ xs) (suc i) h a = run_last class xs i (omega arith) a.1
 
--- a text may be cut behind a run
+-- a text may be cut after a run
 pub run_boundary : (class : Class) (text : List ℕ) (i : ℕ) → IsUtf8 text → i ≤ length text → AllByRecursion (λ c. has class c ≡ true) (take i text) → IsCharBoundary text i
 run_boundary class text zero u h a = IsCharBoundary-start text u
 run_boundary class text (suc i) u h a =

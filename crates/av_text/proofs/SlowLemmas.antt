@@ -59,7 +59,7 @@ quoted_row specials text place n rest some e split none r =
     ap (λ (k : ℕ). drop k text) (omega arith) ∙ (sym (drop-drop (n + 1) (place + 1) text) ∙ ap (drop (n + 1)) (sym (drop-drop 1 place text))) in
     row_more (Quoted (take n (drop 1 (drop place text)))) (drop (n + 1) (drop 1 (drop place text))) none (quoted_is (drop place text) n some e split) (rw at at r)
 
--- ---- a row behind white space
+-- ---- a row after white space
 
 row_is : {specials text rest : List ℕ} (lead : ℕ) → IsRun is_white text (take lead text) (drop lead text) → (r : BeginsRow specials (drop lead text) rest) → IsRow specials text r.row rest
 row_is {specials} {text} {rest} lead run r = record { lead = take lead text; begins = rw r.text_is at run; each = r.each }

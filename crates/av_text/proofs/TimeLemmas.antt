@@ -21,7 +21,7 @@ fraction_stops : (p : ℕ → Bool) {fraction : List ℕ} {part scale : ℕ} →
 fraction_stops p {fraction} point (inl e) rest stops = rw e.0 stops
 fraction_stops p {fraction} point (inr f) rest stops = rw f.1 point
 
--- a point and digits, where the text has them
+-- a point and digits, if the text has them
 pub fraction_here : {tail digits left rest : List ℕ} {part scale : ℕ} → IsRun is_digit tail digits left → BeginsFraction (46 ∷ tail) part scale rest → EndsFraction rest
     → IsNumber 1 18 digits part × (10 ^ length digits ≡ scale) × (left ≡ rest)
 fraction_here {tail} {digits} {left} {rest} {part} {scale} run begins ends = elim begins.is_fraction [
@@ -40,7 +40,7 @@ same_micros e f a b c d = cc
 
 -- ---- clocks
 
--- the seconds, and the parts of one behind them
+-- the seconds, and the parts of one after them
 pub seconds_here : {hours size : ℕ} {minute behind second rest : List ℕ} → IsRun is_digit behind second rest → (h : IsClockOf hours minute behind size)
     → (h.second ≡ second) × (h.rest ≡ rest)
 seconds_here {behind = behind} run h =
@@ -64,7 +64,7 @@ unit_ends IsUnit.s = refl
 unit_ends IsUnit.ms = refl
 unit_ends IsUnit.us = refl
 
--- no `:` stands behind the digits of an amount
+-- no `:` is after the digits of an amount
 unit_plain : {suffix : List ℕ} {unit most : ℕ} → IsUnit suffix unit most → Stops (λ c. nat_eq c 58) suffix
 unit_plain IsUnit.none = tt
 unit_plain IsUnit.s = refl
@@ -82,7 +82,7 @@ amount_here {digits} {tail} all stops h =
 
 -- ---- clocks and amounts
 
--- a clock's text is its hours, minutes and what is behind them, or the latter two
+-- a clock's text is its hours, minutes and what is after them, or the latter two
 record HasHours (text : List ℕ) (size : ℕ) : Type 0 where
   digits : List ℕ
   minute : List ℕ
@@ -131,7 +131,7 @@ clock_forms {text} {size} h = elim h.is_hours [
     size_is = h.size_is;
   }
 
--- a point or nothing stands behind a clock's seconds
+-- a point or nothing is after a clock's seconds
 seconds_plain : {hours size : ℕ} {minute behind second rest : List ℕ} → IsRun is_digit behind second rest → IsClockOf hours minute behind size → Stops (λ c. nat_eq c 58) rest
 seconds_plain run h =
     let plain : Stops (λ c. nat_eq c 58) h.rest = subst (Stops (λ c. nat_eq c 58)) (append-nil h.rest) (fraction_stops (λ c. nat_eq c 58) refl h.is_fraction [] tt) in
@@ -143,8 +143,8 @@ amount_plain run h = subst (Stops (λ c. nat_eq c 58)) (amount_digits run h).1 (
 no_colon : (rest : List ℕ) → Stops (λ c. nat_eq c 58) (58 ∷ rest) → ⊥
 no_colon rest h = cc
 
-behind_colon : {tail rest : List ℕ} → 58 ∷ rest ≡ tail → Stops (λ c. nat_eq c 58) tail → ⊥
-behind_colon {tail} {rest} e h = no_colon rest (subst (Stops (λ c. nat_eq c 58)) (sym e) h)
+after_colon : {tail rest : List ℕ} → 58 ∷ rest ≡ tail → Stops (λ c. nat_eq c 58) tail → ⊥
+after_colon {tail} {rest} e h = no_colon rest (subst (Stops (λ c. nat_eq c 58)) (sym e) h)
 
 hours_at : {text first tail : List ℕ} {size : ℕ} → IsRun is_digit text first tail → (h : HasHours text size) → (h.digits ≡ first) × (58 ∷ (h.minute ++ 58 ∷ h.behind) ≡ tail)
 hours_at run h = digits_here run h.text_is h.is_hours.digits refl
@@ -152,7 +152,7 @@ hours_at run h = digits_here run h.text_is h.is_hours.digits refl
 minutes_at : {text first tail : List ℕ} {size : ℕ} → IsRun is_digit text first tail → (h : HasNoHours text size) → (h.minute ≡ first) × (58 ∷ h.behind ≡ tail)
 minutes_at run h = digits_here run h.text_is h.clock.is_minute.0.digits refl
 
--- Two `:` stand in a clock with hours, one in another clock, none in an amount.
+-- A clock with hours has two `:`, another clock one, and an amount none.
 pub hours_here : {text first behind second third : List ℕ} {size : ℕ} → IsRun is_digit text first (58 ∷ behind) → IsRun is_digit behind second (58 ∷ third)
     → IsClock text size ⊎ IsAmount text size → (hours : ℕ) × IsNumber 1 9 first hours × IsClockOf hours second third size
 hours_here {behind = behind} run later (inr a) = absurd (no_colon behind (amount_plain run a))
@@ -175,7 +175,7 @@ no_hours_here {text} {first} {behind} {second} {rest} {size} run later plain (in
   | inl h ↦
       let both = hours_at run h in
       let e : behind ≡ h.minute ++ 58 ∷ h.behind = cc in
-      absurd (behind_colon (digits_here later e h.clock.is_minute.0.digits refl).1 plain)
+      absurd (after_colon (digits_here later e h.clock.is_minute.0.digits refl).1 plain)
   | inr h ↦
       let both = minutes_at run h in
       let same : h.behind ≡ behind = cc in
@@ -185,8 +185,8 @@ no_hours_here {text} {first} {behind} {second} {rest} {size} run later plain (in
 pub amount_only : {text first tail : List ℕ} {size : ℕ} → IsRun is_digit text first tail → Stops (λ c. nat_eq c 58) tail → IsClock text size ⊎ IsAmount text size → IsAmount (first ++ tail) size
 amount_only run plain (inr a) = rw run.text_is at a
 amount_only run plain (inl clock) = elim (clock_forms clock) [
-  | inl h ↦ absurd (behind_colon (hours_at run h).1 plain)
-  | inr h ↦ absurd (behind_colon (minutes_at run h).1 plain)
+  | inl h ↦ absurd (after_colon (hours_at run h).1 plain)
+  | inr h ↦ absurd (after_colon (minutes_at run h).1 plain)
 ]
 
 pub clock_with_hours : {text first behind second third : List ℕ} {hours size : ℕ} → IsRun is_digit text first (58 ∷ behind) → IsRun is_digit behind second (58 ∷ third)

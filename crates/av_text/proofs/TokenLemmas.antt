@@ -78,7 +78,7 @@ encode_high c high = recursion_from_All (λ b. 128 ≤ b) (encode_utf8 c) (λ k 
 
 -- ---- the state of reading
 
--- the text is a row of pieces so far, and this rest; the value is what the row says, of which `kept` bytes stand
+-- the text is a row of pieces so far, and this rest; the value is what the row says, of which `kept` bytes come
 -- before the plain white space at its end
 pub record Reads (specials text rest value : List ℕ) (kept : ℕ) : Type 0 where
   pub row : List Piece
@@ -133,7 +133,7 @@ reads_blank {specials} {text} {rest} {value} {kept} c next more r each white e m
 
 -- ---- one piece more
 
--- the bytes of a character that stands for itself or is escaped, of which the first is given as a piece of its own
+-- the bytes of a character that means itself or is escaped, of which the first is a piece of its own
 reads_char : {specials text rest value : List ℕ} {kept : ℕ} (first : ℕ → Piece) (mark : List ℕ) (c : ℕ) (next more : List ℕ) → Reads specials text rest value kept → IsAscii specials
     → ((b : ℕ) → source (first b) ≡ mark ++ b ∷ []) → ((b : ℕ) → meaning (first b) ≡ b ∷ []) → ((b : ℕ) → (128 ≤ b) ⊎ (b ≡ c) → IsPiece specials (first b) × IsSolid (first b))
     → rest ≡ (mark ++ encode_utf8 c) ++ next → more ≡ value ++ encode_utf8 c → Reads specials text next more (length more)
@@ -186,7 +186,7 @@ is_row {specials} {from} {lead} {text} {rest} {value} {kept} run r = record {
 pub kept_value : {specials text rest value : List ℕ} {kept : ℕ} → (r : Reads specials text rest value kept) → take kept value ≡ flat_map meaning (trimmed r.row)
 kept_value {specials} {text} {rest} {value} {kept} r = ap (take kept) r.parts ∙ take_at (flat_map meaning (trimmed r.row)) r.trail kept (sym r.kept_is)
 
--- what stands behind a front begins where the front ends
+-- what is after a front begins where the front ends
 pub rest_at : (text front rest : List ℕ) → text ≡ front ++ rest → drop (length text - length rest) text ≡ rest
 rest_at text front rest e =
     let long : length front ≡ length text - length rest = omega (arith, ap length e, length-append front rest) in

@@ -2,7 +2,7 @@
 use Rattle.std.proofs.Common.{◌≡◌, ◌≢◌, ◌<◌, ◌≤◌, ◌⊎◌, ℕ, zero, suc, Bool, List, [], ◌∷◌, ◌++◌, Some, None, length, refl, sym, ◌∙◌, ap, subst, arith, inl, inr, append_assoc}
 use Rattle.std.specs.Prelude.{encode_utf8}
 use Rattle.std.specs.List.{AllByRecursion, Contains, flat_map}
-use Rattle.std.proofs.lemmas.Bool.{cases_Bool, cases_eq}
+use Rattle.std.proofs.lemmas.Bool.{cases_Bool, cases_eq, ne_eqb}
 use Rattle.std.proofs.lemmas.List.{length-append}
 use Rattle.std.proofs.lemmas.Str.{encode_ascii}
 use Rattle.av_text.specs.Classes.{is_white, is_name, IsRun}
@@ -12,8 +12,10 @@ use Rattle.av_text.specs.Arguments.{BeginsNamed, IsUnnamed, IsArg, AreArgs, IsAr
 use Rattle.av_text.specs.declared.arguments.Arg.{Arg}
 use Rattle.av_text.specs.declared.fault.TextKind.{TextKind}
 use Rattle.av_text.specs.declared.fault.TextKind.TheVariants.{UnclosedQuote, LoneEscape}
-use Rattle.av_text.proofs.ReadingLemmas.{cons_parts}
 use Rattle.av_text.proofs.ArgLemmas.{no_name, no_mark, mark_ends, arg_front}
+use Rattle.av_base.proofs.Lists.{cons_parts}
+use Rattle.std.proofs.Math.Nat.{eq-zero-or-pos}
+use Rattle.av_text.specs.Parts.{Skips, Lacks}
 
 -- ---- runs and marks
 
@@ -22,6 +24,20 @@ span p [] = ([], [], record { text_is = refl; each = tt; whole = tt })
 span p (c ∷ text) = elim (cases_Bool (p c)) [
   | inl has ↦ (let t = span p text in (c ∷ t.0, t.1, record { text_is = ap (λ (xs : List ℕ). c ∷ xs) t.2.text_is; each = (has, t.2.each); whole = t.2.whole }))
   | inr lacks ↦ ([], c ∷ text, record { text_is = refl; each = tt; whole = lacks })
+]
+
+pub skip_of : (text : List ℕ) → (rest : List ℕ) × Skips text rest
+skip_of text = let s = span is_white text in (s.1, (s.0, s.2))
+
+pub skip_length : {text rest : List ℕ} → Skips text rest → length rest ≤ length text
+skip_length {text} {rest} s = omega (arith, ap length s.1.text_is, length-append s.0 rest)
+
+-- a text begins with a mark, or not
+pub begins_or : (mark : ℕ) (text : List ℕ) → ((inside : List ℕ) × (text ≡ mark ∷ inside)) ⊎ Lacks mark text
+begins_or mark [] = inr tt
+begins_or mark (c ∷ text) = elim (cases_eq c mark) [
+  | inl e ↦ inl (text, ap (λ (x : ℕ). x ∷ text) e)
+  | inr other ↦ inr (ne_eqb c mark other)
 ]
 
 none_more : (mark x : ℕ) (xs : List ℕ) → x ≢ mark → ¬ Contains xs mark → ¬ Contains (x ∷ xs) mark
@@ -117,17 +133,13 @@ equals_or (c ∷ behind) = elim (cases_eq c 61) [
   | inr other ↦ inr (λ rest e. other (cons_parts (e ∙ ap (λ (xs : List ℕ). xs ++ rest) (encode_ascii 61 (omega arith)))).0)
 ]
 
-some_or : (xs : List ℕ) → (0 < length xs) ⊎ (length xs ≡ 0)
-some_or [] = inr refl
-some_or (x ∷ xs) = inl (omega arith)
-
 pub named_or : (text : List ℕ) → ((name behind : List ℕ) × BeginsNamed text name behind) ⊎ IsUnnamed text
 named_or text =
     let lead = span is_white text in
     let name = span is_name lead.1 in
     let gap = span is_white name.1 in
-    elim (some_or name.0) [
-      | inl some ↦ elim (equals_or gap.1) [
+    elim (eq-zero-or-pos (length name.0)) [
+      | inr some ↦ elim (equals_or gap.1) [
         | inl h ↦ inl (
           name.0,
           h.0,
@@ -144,7 +156,7 @@ named_or text =
         )
         | inr none ↦ inr (no_mark lead.2 name.2 gap.2 none)
       ]
-      | inr empty ↦ inr (no_name lead.2 name.2 empty)
+      | inl empty ↦ inr (no_name lead.2 name.2 empty)
     ]
 
 arg_or_none : (text : List ℕ) → ((arg : Arg) × (rest : List ℕ) × IsArg text arg rest × Ends (58 ∷ []) rest) ⊎ ((kind : TextKind) × (bad : List ℕ) × IsArgFault text kind bad)

@@ -7,7 +7,7 @@ use Rattle.av_text.specs.Faults.{IsTokenFault}
 use Rattle.av_text.specs.declared.fault.TextKind.{TextKind}
 use Rattle.av_text.specs.declared.arguments.Arg.{Arg}
 
--- the text begins, behind white space, with a name, and behind more of it with a `=`
+-- the text begins, after white space, with a name, and after more of it with a `=`
 pub record BeginsNamed (text name behind : List ℕ) : Type 0 where
   pub lead : List ℕ
   pub gap : List ℕ
@@ -41,7 +41,7 @@ abbrev pub IsArgFault : List ℕ → TextKind → List ℕ → Type 0
 IsArgFault text kind bad = ((name behind : List ℕ) × BeginsNamed text name behind × IsTokenFault (58 ∷ []) behind kind bad)
     ⊎ (IsUnnamed text × IsTokenFault (58 ∷ []) text kind bad)
 
--- the text has no reading: behind these arguments stands one without a value
+-- the text has no reading: after these arguments comes one without a value
 abbrev pub FailsBehind : List ℕ → List Arg → TextKind → List ℕ → Type 0
 FailsBehind text [] kind bad = IsArgFault text kind bad
 FailsBehind text (arg ∷ args) kind bad = (rest more : List ℕ) × IsArg text arg rest × (rest ≡ 58 ∷ more) × FailsBehind more args kind bad

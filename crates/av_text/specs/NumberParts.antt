@@ -28,7 +28,7 @@ pub record IsQuotient (above below : List ℕ) (num den : ℕ) : Type 0 where
   pub is_den : IsNumber 1 18 below den
   pub some : 0 < den
 
--- the two numbers that digits and the text behind them say
+-- the two numbers that digits and the text after them say
 abbrev pub AreParts : List ℕ → List ℕ → ℕ → ℕ → Type 0
 AreParts above [] num den = IsNumber 1 18 above num × (den ≡ 1)
 AreParts above (mark ∷ below) num den = (((mark ≡ 47) ⊎ (mark ≡ 58)) × IsQuotient above below num den) ⊎ ((mark ≡ 46) × IsDecimal above below num den)
@@ -46,7 +46,7 @@ EndsFraction rest = Stops (λ c. is_digit c || c == 46) rest
 abbrev pub IsSixtieth : List ℕ → ℕ → Type 0
 IsSixtieth text n = IsNumber 2 2 text n × (n < 60)
 
--- a clock of so many hours, whose minutes are this text, and whose seconds begin the text behind them
+-- a clock of these hours, whose minutes are this text, and whose seconds begin the text after them
 pub record IsClockOf (hours : ℕ) (minute behind : List ℕ) (size : ℕ) : Type 0 where
   pub second : List ℕ
   pub rest : List ℕ

@@ -1,4 +1,4 @@
--- Parts of a text, one behind another.
+-- Parts of a text, one after another.
 use Rattle.std.specs.Prelude.{◌==◌, ◌≤◌, ◌⊎◌, ℕ, List}
 use Rattle.std.specs.Str.{IsCharBoundary}
 use Rattle.av_text.specs.Classes.{is_white, Stops, IsRun}
@@ -11,7 +11,7 @@ Skips text rest = (lead : List ℕ) × IsRun is_white text lead rest
 abbrev pub Lacks : ℕ → List ℕ → Type 0
 Lacks mark text = Stops (λ c. c == mark) text
 
--- a place at or behind another, between two characters
+-- a place at or after another, between two characters
 abbrev pub IsPlace : List ℕ → ℕ → ℕ → Type 0
 IsPlace text from place = (from ≤ place) × IsCharBoundary text place
 

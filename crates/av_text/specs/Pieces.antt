@@ -16,7 +16,7 @@ IsRaw specials (Quoted inner) raw = (raw ≡ 39 ∷ (inner.now ++ 39 ∷ [])) ×
 abbrev pub BeginsPiece : List ℕ → List ℕ → Piece → List ℕ → Type 0
 BeginsPiece specials text piece rest = (raw : List ℕ) × IsRaw specials piece raw × (text ≡ raw ++ rest)
 
--- what the piece stands for
+-- what the piece means
 abbrev pub said : Piece → List ℕ
 said (Plain c) = encode_utf8 c
 said (Escaped c) = encode_utf8 c

@@ -9,7 +9,7 @@ pub record BeginsRow (specials text rest : List ℕ) : Type 0 where
   pub each : AllByRecursion (IsPiece specials) row
   pub text_is : text ≡ flat_map source row ++ rest
 
--- the text is a row of pieces that says the value; no byte of it need be told from a special
+-- the text is a row of pieces that says the value; no byte of it counts as a special
 pub record Says (text value : List ℕ) : Type 0 where
   pub row : List Piece
   pub each : AllByRecursion (IsPiece []) row

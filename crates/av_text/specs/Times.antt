@@ -2,12 +2,12 @@
 use Rattle.std.specs.Prelude.{◌≡◌, ◌<◌, ◌+◌, ◌*◌, ◌/◌, ◌^◌, ◌++◌, ◌⊎◌, ℕ, ℤ, List, [], ◌∷◌, length, codes}
 use Rattle.av_text.specs.Numbers.{IsNumber, IsSigned}
 
--- what stands behind the whole units: nothing, or a point and 1 to 18 digits; `part` of `scale` parts of a unit
+-- what is after the whole units: nothing, or a point and 1 to 18 digits; `part` of `scale` parts of a unit
 abbrev pub IsFraction : List ℕ → ℕ → ℕ → Type 0
 IsFraction text part scale = ((text ≡ []) × (part ≡ 0) × (scale ≡ 1))
     ⊎ ((digits : List ℕ) × (text ≡ 46 ∷ digits) × IsNumber 1 18 digits part × (scale ≡ 10 ^ length digits))
 
--- so many microseconds in whole units and parts of one; what is finer is cut
+-- the microseconds in whole units and parts of one; what is finer is cut
 abbrev pub micros : ℕ → ℕ → ℕ → ℕ → ℕ
 micros unit whole part scale = whole * unit + part * unit / scale
 
@@ -35,7 +35,7 @@ pub record IsClock (text : List ℕ) (size : ℕ) : Type 0 where
   pub is_fraction : IsFraction rest part scale
   pub size_is : size ≡ micros 1_000_000 ((hours * 60 + minutes) * 60 + seconds) part scale
 
--- the unit that a suffix names, in microseconds, and how many digits may stand before the point
+-- the unit that a suffix names, in microseconds, and how many digits may come before the point
 pub data IsUnit : List ℕ → ℕ → ℕ → Type 0 where
   none : IsUnit [] 1_000_000 9
   s : IsUnit (codes "s") 1_000_000 9

@@ -8,9 +8,9 @@ use Rattle.av_text.specs.Classes.{is_white, IsRun}
 
 -- a piece of a raw token
 pub data Piece : Type 0 where
-  -- a character that stands for itself
+  -- a character that means itself
   Plain : ℕ → Piece
-  -- a character behind a `\`
+  -- a character after a `\`
   Escaped : ℕ → Piece
   -- a text between two `'`
   Quoted : List ℕ → Piece
@@ -21,7 +21,7 @@ source (Plain c) = c ∷ []
 source (Escaped c) = 92 ∷ c ∷ []
 source (Quoted text) = 39 ∷ (text ++ 39 ∷ [])
 
--- what a piece stands for
+-- what a piece means
 abbrev pub meaning : Piece → List ℕ
 meaning (Plain c) = c ∷ []
 meaning (Escaped c) = c ∷ []
@@ -49,7 +49,7 @@ abbrev pub trimmed : List Piece → List Piece
 trimmed [] = []
 trimmed (p ∷ ps) = put_before p (trimmed ps)
 
--- behind white space the text is this row of pieces, and then the rest
+-- after white space the text is this row of pieces, and then the rest
 pub record IsRow (specials text : List ℕ) (row : List Piece) (rest : List ℕ) : Type 0 where
   pub lead : List ℕ
   pub begins : IsRun is_white text lead (flat_map source row ++ rest)

@@ -1,10 +1,11 @@
 //! Arguments of a filter.
 ghost use Rattle.std.specs.Prelude.{◌≡◌, ◌<◌, ◌≤◌, ◌+◌, ◌^◌, ℕ, List, length, drop, IfOk, IfSome, IsNone};
 ghost use Rattle.std.specs.Str.{IsUtf8, IsCharBoundary};
-ghost use Rattle.av_text.specs.Faults.{IsFaultAt, IfFault, Gives, Refuses};
+ghost use Rattle.av_text.specs.Faults.{IsFaultAt};
 ghost use Rattle.av_text.specs.Arguments.{BeginsNamed, IsUnnamed, IsArg, IsArgFault, AreArgs, IsArgsFault};
 ghost use Rattle.av_text.specs.declared.fault.TextKind.{TextKind};
 ghost use Rattle.av_text.specs.declared.arguments.Arg.{Arg};
+ghost use Rattle.av_base.specs.Failures.{IfFault, Gives, Refuses};
 
 use crate::{Class, TextError, next_token, split_run};
 use av_base::{List, Text};
@@ -13,13 +14,13 @@ use std::alloc::Global;
 /// An argument of a filter.
 #[derive(Drop)]
 pub struct Arg {
-    /// The name before a `=`, where there is one.
+    /// The name before a `=`, if there is one.
     pub name: Option<Text>,
     /// The value, without its quotes and escapes.
     pub value: Text,
 }
 
-/// The name that a text begins with and the text behind its `=`; none where it begins with no name and `=`.
+/// The name that a text begins with and the text after its `=`; none if it doesn't begin with a name and `=`.
 fn split_name(text: &str) -> Option<(&str, &str)>
     ensures named { IfSome result (λ p. BeginsNamed text.now p.0.now p.1.now) }
     ensures none { IsNone result → IsUnnamed text.now }
@@ -66,11 +67,12 @@ fn next_arg(alloc: Global, args: &str, place: usize) -> Result<(Arg, usize), Tex
 
 /// The arguments that a text says, with a `:` between each two.
 ///
-/// An argument has a name where it begins, behind white space, with letters, digits or `_`, behind which stands a `=`,
-/// with white space between or not. Its value is a token that ends before a `:`. An empty text has no arguments, and a
-/// `:` at the end adds none. The text has fewer than 2^32 bytes. (FFmpeg Filters Documentation, "Filtergraph syntax".)
+/// An argument has a name if it begins, after white space, with letters, digits or `_` and then a `=`, with white space
+/// between or not. Its value is a token that ends before a `:`. An empty text has no arguments, and a `:` at the end
+/// adds none. The text has fewer than 2^32 bytes. (FFmpeg Filters Documentation, "Filtergraph syntax".)
 ///
-/// Errors: those of [`next_token`] at the first value that has one; want of memory.
+/// # Errors
+/// Those of [`next_token`] at the first value that has one. Or out of memory.
 pub fn split_args(alloc: Global, args: &str) -> Result<List<Arg>, TextError>
     requires { length args.now < 2 ^ 32 }
     ensures args { IfOk result (AreArgs args.now) }

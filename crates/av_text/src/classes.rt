@@ -44,7 +44,7 @@ fn run_len(text: &[u8], class: Class) -> usize
     text.len()
 }
 
-/// The longest run of characters of the class that a text begins with, and the text behind it.
+/// The longest run of characters of the class that a text begins with, and the text after it.
 pub fn split_run(text: &str, class: Class) -> (&str, &str)
     ensures run { IsRun (has class) text.now result.0.now result.1.now }
     ensures utf8 { IsUtf8 result.1.now }
@@ -59,7 +59,7 @@ pub(crate) fn split_bytes(text: &[u8], class: Class) -> (&[u8], &[u8])
     text.split_at(run_len(text, class))
 }
 
-/// The place behind the white space that stands at a place.
+/// The place after the white space at a place.
 pub fn skip_white(text: &str, place: usize) -> usize
     requires { IsCharBoundary text.now place }
     ensures skips { Skips (drop place text.now) (drop result text.now) }

@@ -8,7 +8,7 @@ use crate::Class;
 use crate::classes::split_bytes;
 use av_base::{Ratio, reduce};
 
-/// The number that decimal digits write; none where the text isn't from `least` to `most` digits.
+/// The number that decimal digits write; none if the text isn't from `least` to `most` digits.
 pub(crate) fn number(text: &[u8], least: usize, most: usize) -> Option<u64>
     requires { most ≤ 18 }
     ensures found { IfSome result (IsNumber least most text.now) }
@@ -28,7 +28,7 @@ pub(crate) fn number(text: &[u8], least: usize, most: usize) -> Option<u64>
     Some(value)
 }
 
-/// The number of a text that is `least` to `most` decimal digits, of which there may be 18. None elsewhere.
+/// The number of a text that is `least` to `most` decimal digits, of which there may be 18. None if it isn't.
 pub fn read_digits(text: &str, least: usize, most: usize) -> Option<u64>
     requires { most ≤ 18 }
     ensures number { IfSome result (IsNumber least most text.now) }
@@ -70,7 +70,7 @@ pub fn read_whole(text: &str) -> Option<i64>
     Some(signed(negative, size))
 }
 
-/// The two numbers of a number with a point, before and behind which the digits stand.
+/// The two numbers of a number with a point, with the digits before and after it.
 fn decimal(above: &[u8], below: &[u8]) -> Option<(u128, u128)>
     ensures found { IfSome result (λ p. IsDecimal above.now below.now p.0 p.1) }
     ensures only { (num den : ℕ) → IsDecimal above.now below.now num den → result ≡ Some (num, den) }
@@ -94,7 +94,7 @@ fn fraction(above: &[u8], below: &[u8]) -> Option<(u128, u128)>
     Some((u128::from(num), u128::from(den)))
 }
 
-/// The two numbers that digits and the text behind them say.
+/// The two numbers of digits and the text after them.
 fn parts(above: &[u8], tail: &[u8]) -> Option<(u128, u128)>
     ensures found { IfSome result (λ p. AreParts above.now tail.now p.0 p.1) }
     ensures only { (num den : ℕ) → AreParts above.now tail.now num den → result ≡ Some (num, den) }
@@ -126,10 +126,10 @@ fn spelled(text: &str) -> Option<(u128, u128)>
 
 /// The ratio that a text says, in lowest terms.
 ///
-/// The forms are `N`, `N/D` and `N:D` of 1 to 18 digits each, where D isn't 0; a number with a point, with at most 18
-/// digits before it and 1 to 18 behind it; and the words `ntsc` 30000/1001, `pal` 25, `film` 24 and `ntsc_film`
-/// 24000/1001. None elsewhere, and where a part passes 2^31 - 1 in lowest terms. (FFmpeg Utilities Documentation,
-/// "Ratio" and "Video rate".)
+/// The forms are `N`, `N/D` and `N:D` of 1 to 18 digits each, and D isn't 0; a number with a point, with at most 18
+/// digits before it and 1 to 18 after it; and the words `ntsc` 30000/1001, `pal` 25, `film` 24 and `ntsc_film`
+/// 24000/1001. None if the text is none of these, or a part passes 2^31 - 1 in lowest terms. (FFmpeg Utilities
+/// Documentation, "Ratio" and "Video rate".)
 pub fn read_ratio(text: &str) -> Option<Ratio>
     ensures ratio { IfSome result (SaysRatio text.now) }
     ensures only { (r : Ratio) → SaysRatio text.now r → result ≡ Some r }

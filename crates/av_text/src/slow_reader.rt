@@ -43,7 +43,7 @@ fn all_space(text: &[u8]) -> bool
     }
 }
 
-/// How many bytes stand before the first `'`.
+/// How many bytes come before the first `'`.
 fn quote_len(text: &[u8]) -> Option<usize>
     ensures found { IfSome result (λ n. (n < length text.now) × (text.now ≡ take n text.now ++ 39 ∷ drop (n + 1) text.now) × ¬ Contains (take n text.now) 39) }
     ensures none { IsNone result → ¬ Contains text.now 39 }
@@ -154,7 +154,7 @@ fn agrees(alloc: Global, text: &str) -> bool
     }
 }
 
-/// The text of a number, with a length: all texts stand in a row, the short ones first.
+/// The text of a number, with a length: all texts are in a row, the short ones first.
 fn letters(mut number: usize) -> ([u8; LONGEST], usize)
     ensures { result.1 ≤ LONGEST }
 {

@@ -3,7 +3,7 @@ use av_base::List;
 use std::alloc::Global;
 use std::test::Fail;
 
-/// The specials behind which a filter's arguments end.
+/// The specials at which a filter's arguments end.
 const ENDS: &[u8] = b"[],;";
 
 /// The most bytes of a text here.
@@ -22,7 +22,7 @@ fn arguments(alloc: Global, text: &str) -> Result<List<Arg>, TextError> {
     split_args(alloc, args)
 }
 
-/// The names and values, with a `=` behind each name and a `|` behind each value.
+/// The names and values, with a `=` after each name and a `|` after each value.
 fn joined(alloc: Global, args: &[Arg]) -> Result<String, Fail> {
     let mut all = String::new(alloc);
     for arg in args {
@@ -106,7 +106,7 @@ fn arguments_are_unescaped_twice(rt: HostRuntime) -> Result<(), Fail> {
 }
 
 #[test]
-fn a_fault_of_arguments_stands_at_its_byte(rt: HostRuntime) -> Result<(), Fail> {
+fn a_fault_of_arguments_is_at_its_byte(rt: HostRuntime) -> Result<(), Fail> {
     for (text, at, kind) in [
         ("b:'c", 2, TextKind::UnclosedQuote),
         (r"b:k=c\", 5, TextKind::LoneEscape),

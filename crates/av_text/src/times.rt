@@ -9,14 +9,14 @@ use crate::Class;
 use crate::classes::split_bytes;
 use crate::numbers::{number, signed, split_sign};
 
-/// A part of a unit: so many of so many.
+/// A part of a unit: `num` parts of `scale`.
 #[derive(Clone, Copy)]
 struct Part {
     num: u64,
     scale: u64,
 }
 
-/// The point and the digits that a text begins with, if it does, and the text behind them.
+/// The point and the digits that a text begins with, if it does, and the text after them.
 fn split_part(text: &[u8]) -> Option<(Part, &[u8])>
     ensures found { IfSome result (λ p. BeginsFraction text.now p.0.num p.0.scale p.1.now) }
     ensures only { (part scale : ℕ) (rest : List ℕ) → BeginsFraction text.now part scale rest → EndsFraction rest
@@ -34,7 +34,7 @@ fn split_part(text: &[u8]) -> Option<(Part, &[u8])>
     }
 }
 
-/// So many microseconds in whole units and a part of one, where a unit has `unit` microseconds.
+/// The microseconds in whole units and a part of one, if a unit has `unit` microseconds.
 fn micros(unit: u64, whole: u64, part: Part) -> u64
     requires less { part.num < part.scale }
     requires fits { whole * unit + unit < 2 ^ 63 }
@@ -70,7 +70,7 @@ fn clock(hours: u64, minute: &[u8], behind: &[u8]) -> Option<u64>
     }
 }
 
-/// The microseconds of the unit that a suffix names, and how many digits may stand before the point.
+/// The microseconds of the unit that a suffix names, and how many digits may come before the point.
 fn unit_of(suffix: &[u8]) -> Option<(u64, usize)>
     ensures found { IfSome result (λ p. IsUnit suffix.now p.0 p.1) }
     ensures only { (unit most : ℕ) → IsUnit suffix.now unit most → result ≡ Some (unit, most) }
@@ -118,8 +118,8 @@ fn size_of(text: &[u8]) -> Option<u64>
 /// The time that a text says, in microseconds; what is finer is cut towards zero.
 ///
 /// The forms are `[-][HH:]MM:SS[.m..]`, with minutes and seconds of two digits below 60, and `[-]S[.m..]` with `s`,
-/// `ms`, `us` or nothing behind it, which is seconds. At most 9 digits stand before a point, or 18 with `us`, and at
-/// most 18 behind it. None elsewhere. (FFmpeg Utilities Documentation, "Time duration".)
+/// `ms`, `us` or nothing after it, which is seconds. At most 9 digits come before a point, or 18 with `us`, and at
+/// most 18 after it. None if the text has another form. (FFmpeg Utilities Documentation, "Time duration".)
 pub fn read_time(text: &str) -> Option<i64>
     ensures time { IfSome result (IsTime text.now) }
     ensures only { (z : ℤ) → IsTime text.now z → result ≡ Some z }

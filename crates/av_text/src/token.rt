@@ -3,9 +3,10 @@ ghost use Rattle.std.specs.Prelude.{◌≡◌, ◌<◌, ◌≤◌, ◌↔◌, �
 ghost use Rattle.std.specs.List.{Contains};
 ghost use Rattle.std.specs.Str.{IsAscii, IsUtf8, IsCharBoundary};
 ghost use Rattle.av_text.specs.Tokens.{Ends, IsToken};
-ghost use Rattle.av_text.specs.Faults.{IsBroken, IsTokenFault, IsFaultAt, IfFault, Gives, Refuses};
+ghost use Rattle.av_text.specs.Faults.{IsBroken, IsTokenFault, IsFaultAt};
 ghost use Rattle.av_text.specs.Pieces.{BeginsPiece, said, is_gap};
 ghost use Rattle.av_text.specs.declared.fault.TextKind.{TextKind};
+ghost use Rattle.av_base.specs.Failures.{IfFault, Gives, Refuses};
 
 use crate::{Class, TextError, TextFault, TextKind, split_run};
 use av_base::Text;
@@ -14,9 +15,9 @@ use std::alloc::{AllocError, Global};
 /// A piece of a raw token.
 #[derive(Clone, Copy)]
 enum Piece<'a> {
-    /// A character that stands for itself.
+    /// A character that means itself.
     Plain(char),
-    /// A character behind a `\`.
+    /// A character after a `\`.
     Escaped(char),
     /// A text between two `'`.
     Quoted(&'a str),
@@ -30,7 +31,7 @@ fn is_special(c: char, specials: &[u8]) -> bool
     specials.iter().any(|special| char::from(*special) == c)
 }
 
-/// The piece that a text begins with, and the text behind it; none where a token may end.
+/// The piece that a text begins with, and the text after it; none if a token may end here.
 fn next_piece<'a>(text: &'a str, specials: &[u8]) -> Result<Option<(Piece<'a>, &'a str)>, TextKind>
     requires { IsAscii specials.now }
     ensures piece { IfOk result (λ found. MatchOption found (Ends specials.now text.now) (λ p. BeginsPiece specials.now text.now p.0 p.1.now)) }
@@ -50,7 +51,7 @@ fn next_piece<'a>(text: &'a str, specials: &[u8]) -> Result<Option<(Piece<'a>, &
     }
 }
 
-/// The piece behind a `\`.
+/// The piece after a `\`.
 fn escaped(text: &str) -> Result<(Piece<'_>, &str), TextKind>
     ensures piece { IfOk result (λ p. (specials : List ℕ) → BeginsPiece specials (92 ∷ text.now) p.0 p.1.now) }
     ensures broken { IfErr result (λ kind. IsBroken kind (92 ∷ text.now)) }
@@ -63,7 +64,7 @@ fn escaped(text: &str) -> Result<(Piece<'_>, &str), TextKind>
     }
 }
 
-/// The piece behind a `'`.
+/// The piece after a `'`.
 fn quoted(text: &str) -> Result<(Piece<'_>, &str), TextKind>
     ensures piece { IfOk result (λ p. (specials : List ℕ) → BeginsPiece specials (39 ∷ text.now) p.0 p.1.now) }
     ensures broken { IfErr result (λ kind. IsBroken kind (39 ∷ text.now)) }
@@ -78,9 +79,9 @@ fn quoted(text: &str) -> Result<(Piece<'_>, &str), TextKind>
 /// The value of a token as far as it was read.
 #[derive(Drop)]
 struct Value {
-    /// What its pieces stand for.
+    /// What its pieces mean.
     text: String,
-    /// How many bytes of it stand before the plain white space at its end.
+    /// How many bytes of it come before the plain white space at its end.
     kept: usize,
 }
 
@@ -103,12 +104,13 @@ impl Value {
 /// The token that begins at the byte `start` of a text: its value, and the byte at which it ends.
 ///
 /// White space is skipped. The token goes on to the first special that is neither quoted nor escaped, or to the end of
-/// the text. A `\` makes the character behind it literal, and a pair of `'` all that stands between them. White space
-/// at the end is dropped where it is neither. `start` is between two characters of the text, and the specials are
+/// the text. A `\` makes the character after it literal, and a pair of `'` all that is between them. White space
+/// at the end is dropped if it is neither. `start` is between two characters of the text, and the specials are
 /// ASCII. (FFmpeg Filters Documentation, "Notes on filtergraph escaping".)
 ///
-/// Errors: `UnclosedQuote` at a `'` without a partner, or `LoneEscape` at a `\` that is the last byte, whichever comes
-/// first; want of memory.
+/// # Errors
+/// `UnclosedQuote` at a `'` without a partner, or `LoneEscape` at a `\` that is the last byte, whichever comes first. Or
+/// out of memory.
 pub fn next_token(
     alloc: Global,
     text: &str,

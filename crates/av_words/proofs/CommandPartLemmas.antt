@@ -1,4 +1,4 @@
--- What words without a fault say.
+-- What words without a fault mean.
 use Rattle.std.proofs.Common.{◌≡◌, ◌++◌, ℕ, Bool, List, [], ◌∷◌, Option, Some, None, filter, refl, sym, ◌∙◌, ap, append_assoc, append-nil, option_to_list, IsTrue, ◌↔◌}
 use Rattle.std.specs.List.{AllZip}
 use Rattle.std.specs.Option.{IfSome, IsNone, is_some}
@@ -12,8 +12,8 @@ use Rattle.av_faults.specs.declared.fault.Fault.TheVariants.{UnknownWord, BadNum
 use Rattle.av_words.specs.WordRoles.{Said}
 use Rattle.av_words.specs.WordValues.{SaysMade}
 use Rattle.av_words.specs.WordChecks.{HasLabel, IsLastOf}
-use Rattle.av_words.specs.WordFaults.{IsAt, Has, map_behind, waiting, Takes, IsBadNumber, HasBadEnding}
-use Rattle.av_words.specs.CommandWords.{IsFaultless, is_input, SaysInput, Output, output_at, outputs_behind}
+use Rattle.av_words.specs.WordFaults.{IsAt, Has, map_after, waiting, Takes, IsBadNumber, HasBadEnding}
+use Rattle.av_words.specs.CommandWords.{IsFaultless, is_input, SaysInput, Output, output_at, outputs_after}
 use Rattle.av_words.proofs.WordCheckLemmas.{said_as}
 
 -- an option takes its value
@@ -43,14 +43,14 @@ made_input role word (Some input) is found none good = rw is (found, tt)
 
 -- ---- outputs
 
-pub outputs_more : (map : Option (List ℕ)) (before : List Said) (last : Said) → outputs_behind map (before ++ last ∷ []) ≡ outputs_behind map before ++ output_at (waiting map before) last.role last.word
+pub outputs_more : (map : Option (List ℕ)) (before : List Said) (last : Said) → outputs_after map (before ++ last ∷ []) ≡ outputs_after map before ++ output_at (waiting map before) last.role last.word
 outputs_more map [] last = append-nil (output_at map last.role last.word)
 outputs_more map (x ∷ xs) last =
-    let next = map_behind x.role x.word map in
+    let next = map_after x.role x.word map in
     ap (λ (os : List Output). output_at map x.role x.word ++ os) (outputs_more next xs last)
-    ∙ sym (append_assoc (output_at map x.role x.word) (outputs_behind next xs) (output_at (waiting next xs) last.role last.word))
+    ∙ sym (append_assoc (output_at map x.role x.word) (outputs_after next xs) (output_at (waiting next xs) last.role last.word))
 
-pub label_kept : (line : List Said) → IsFaultless line → (n : ℕ) (role : Role) (word : List ℕ) (map : Option (List ℕ)) → IsAt line n role word → HasLabel map → HasLabel (map_behind role word map)
+pub label_kept : (line : List Said) → IsFaultless line → (n : ℕ) (role : Role) (word : List ℕ) (map : Option (List ℕ)) → IsAt line n role word → HasLabel map → HasLabel (map_after role word map)
 label_kept line faultless n (Value Map) word map here labelled = λ not. faultless (UnknownWord n) (record { role = Value Map; word = word; here = here; fails = not })
 label_kept line faultless n File word map here labelled = tt
 label_kept line faultless n other word map here labelled = labelled

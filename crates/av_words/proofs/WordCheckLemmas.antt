@@ -1,5 +1,5 @@
 -- What is known of words, word by word.
-use Rattle.std.proofs.Common.{◌≡◌, ◌<◌, ◌≤◌, ◌+◌, ◌-◌, ◌++◌, ◌⊎◌, ◌↔◌, ℕ, Bool, true, false, cond, not, zero, suc, List, [], ◌∷◌, Err, Option, Some, None, option_map, get_or, length, take, drop, bytes_eq, IsTrue, nat_eq, lit<, refl, sym, ◌∙◌, ap, subst, inl, inr, arith}
+use Rattle.std.proofs.Common.{◌≡◌, ◌<◌, ◌≤◌, ◌+◌, ◌-◌, ◌++◌, ◌⊎◌, ◌↔◌, ℕ, Bool, true, false, cond, not, zero, suc, List, [], ◌∷◌, Option, Some, None, option_map, get_or, length, take, drop, bytes_eq, IsTrue, nat_eq, lit<, refl, sym, ◌∙◌, ap, subst, inl, inr, arith}
 use Rattle.std.specs.List.{slice_get}
 use Rattle.std.specs.Option.{is_some, IfSome, IsNone}
 use Rattle.std.proofs.lemmas.Bool.{false≢true}
@@ -11,12 +11,10 @@ use Rattle.av_words.specs.declared.word_roles.Role.{Role}
 use Rattle.av_words.specs.declared.word_roles.Role.TheVariants.{Quiet, Value, File}
 use Rattle.av_words.specs.declared.word_roles.Valued.TheVariants.{Input, Map}
 use Rattle.av_words.specs.declared.word_roles.Item.{Item}
-use Rattle.av_words.specs.declared.word_faults.WordError.{WordError}
-use Rattle.av_words.specs.declared.word_faults.WordError.TheVariants as error
 use Rattle.av_faults.specs.declared.fault.Fault.{Fault}
 use Rattle.av_faults.specs.declared.fault.Fault.TheVariants.{UnknownWord, MissingValue, BadNumber, BadEnding, SameName}
 use Rattle.av_words.specs.WordRoles.{Said, said_of, line_of}
-use Rattle.av_words.specs.WordFaults.{IsAt, Has, Lacks, IsLast, map_behind, waiting, IsUnknown, LacksValue, IsBadNumber, HasBadEnding, IsSameName, Stands, HasFault, word_of, rank_of, IsBefore, IsFirstFault, IfFault}
+use Rattle.av_words.specs.WordFaults.{IsAt, Has, Lacks, IsLast, map_after, waiting, IsUnknown, LacksValue, IsBadNumber, HasBadEnding, IsSameName, HoldsAt, HasFault, word_of, rank_of, IsBefore, IsFirstFault}
 use Rattle.av_words.specs.WordChecks.{HasNoneAt, IsFirstAt, IsLastOf}
 
 -- ---- one word more
@@ -24,10 +22,10 @@ use Rattle.av_words.specs.WordChecks.{HasNoneAt, IsFirstAt, IsLastOf}
 abbrev pub said_as : Role → List ℕ → Said
 said_as role word = record { role = role; word = word }
 
-pub at_left : (before behind : List Said) (n : ℕ) (x : Said) → slice_get before n ≡ Some x → slice_get (before ++ behind) n ≡ Some x
-at_left [] behind n x here = absurd (cc)
-at_left (y ∷ ys) behind zero x here = here
-at_left (y ∷ ys) behind (suc n) x here = at_left ys behind n x here
+pub at_left : (before after : List Said) (n : ℕ) (x : Said) → slice_get before n ≡ Some x → slice_get (before ++ after) n ≡ Some x
+at_left [] after n x here = absurd (cc)
+at_left (y ∷ ys) after zero x here = here
+at_left (y ∷ ys) after (suc n) x here = at_left ys after n x here
 
 pub at_end : (before : List Said) (x : Said) → slice_get (before ++ x ∷ []) (length before) ≡ Some x
 at_end [] x = refl
@@ -74,12 +72,12 @@ has_noted before role name old new knows update other = (
   ],
 )
 
-pub waiting_more : (map : Option (List ℕ)) (before : List Said) (last : Said) → waiting map (before ++ last ∷ []) ≡ map_behind last.role last.word (waiting map before)
+pub waiting_more : (map : Option (List ℕ)) (before : List Said) (last : Said) → waiting map (before ++ last ∷ []) ≡ map_after last.role last.word (waiting map before)
 waiting_more map [] last = refl
-waiting_more map (x ∷ xs) last = waiting_more (map_behind x.role x.word map) xs last
+waiting_more map (x ∷ xs) last = waiting_more (map_after x.role x.word map) xs last
 
 -- a word that is no file and no value of `-map`
-pub same_map : (role : Role) (word : List ℕ) (map : Option (List ℕ)) → (role ≡ Value Map → ⊥) → (role ≡ File → ⊥) → map_behind role word map ≡ map
+pub same_map : (role : Role) (word : List ℕ) (map : Option (List ℕ)) → (role ≡ Value Map → ⊥) → (role ≡ File → ⊥) → map_after role word map ≡ map
 same_map (Value Map) word map a b = absurd (a refl)
 same_map File word map a b = absurd (b refl)
 same_map other word map a b = refl
@@ -91,7 +89,7 @@ same_as_output before role word r is knows = rw is knows
 
 -- ---- values
 
--- a value is refused where nothing was read of it
+-- a value is rejected if nothing was read of it
 pub not_taken : {X : Type 0} (o : Option X) (Says : X → Type 0) (r : Bool) → is_some o ≡ not r → IfSome o Says → (IsNone o → (x : X) → Says x → ⊥) → IsTrue r ↔ (((x : X) × Says x) → ⊥)
 not_taken None Says true e found none = (λ _ h. none refl h.0 h.1, λ _. refl)
 not_taken None Says false e found none = absurd (false≢true e)
@@ -141,7 +139,7 @@ last_kept before item role (Some at) apart is = (
   },
 )
 
--- ---- words behind
+-- ---- words that follow
 
 pub get_drop : {X : Type 0} (xs : List X) (k j m : ℕ) → m ≡ k + j → slice_get (drop k xs) j ≡ slice_get xs m
 get_drop xs zero j m e = let same : m ≡ j = omega arith in ap (slice_get xs) (sym same)
@@ -149,18 +147,18 @@ get_drop [] (suc k) j m e = refl
 get_drop (x ∷ xs) (suc k) j zero e = absurd (omega arith)
 get_drop (x ∷ xs) (suc k) j (suc m) e = get_drop xs k j m (omega arith)
 
-pub one_behind : (line : List Said) (n at : ℕ) (role : Role) (word : List ℕ) → IsLast line role at word → n < at → Lacks (drop (n + 1) line) role → ⊥
-one_behind line n at role word last less lacks = lacks word (at - (n + 1), get_drop line (n + 1) (at - (n + 1)) at (omega arith) ∙ last.here)
+pub one_after : (line : List Said) (n at : ℕ) (role : Role) (word : List ℕ) → IsLast line role at word → n < at → Lacks (drop (n + 1) line) role → ⊥
+one_after line n at role word last less lacks = lacks word (at - (n + 1), get_drop line (n + 1) (at - (n + 1)) at (omega arith) ∙ last.here)
 
-pub none_behind : (line : List Said) (n at : ℕ) (role : Role) (word : List ℕ) → IsLast line role at word → at ≤ n → Lacks (drop (n + 1) line) role
-none_behind line n at role word last less other h = last.later (n + 1 + h.0) other (omega arith) (sym (get_drop line (n + 1) h.0 (n + 1 + h.0) refl) ∙ h.1)
+pub none_after : (line : List Said) (n at : ℕ) (role : Role) (word : List ℕ) → IsLast line role at word → at ≤ n → Lacks (drop (n + 1) line) role
+none_after line n at role word last less other h = last.later (n + 1 + h.0) other (omega arith) (sym (get_drop line (n + 1) h.0 (n + 1 + h.0) refl) ∙ h.1)
 
-pub never_behind : (line : List Said) (n : ℕ) (role : Role) → Lacks line role → Lacks (drop (n + 1) line) role
-never_behind line n role lacks other h = lacks other (n + 1 + h.0, sym (get_drop line (n + 1) h.0 (n + 1 + h.0) refl) ∙ h.1)
+pub never_after : (line : List Said) (n : ℕ) (role : Role) → Lacks line role → Lacks (drop (n + 1) line) role
+never_after line n role lacks other h = lacks other (n + 1 + h.0, sym (get_drop line (n + 1) h.0 (n + 1 + h.0) refl) ∙ h.1)
 
--- nothing stands behind the last word
-pub nothing_behind : (line : List Said) (n : ℕ) → n < length line → (n + 1 ≡ length line) ↔ (drop (n + 1) line ≡ [])
-nothing_behind line n within = (
+-- nothing follows the last word
+pub nothing_after : (line : List Said) (n : ℕ) → n < length line → (n + 1 ≡ length line) ↔ (drop (n + 1) line ≡ [])
+nothing_after line n within = (
   λ e. drop_all (n + 1) line (omega arith),
   λ e. omega (arith, length-drop (n + 1) line, ap length e),
 )
@@ -168,7 +166,7 @@ nothing_behind line n within = (
 -- ---- the faults of one word
 
 module _ (line : List Said) (n : ℕ) (role : Role) (word : List ℕ) (here : IsAt line n role word) where
-  stands_here : (Fails : List Said → Role → List ℕ → List Said → Type 0) → Stands Fails line n → Fails (take n line) role word (drop (n + 1) line)
+  stands_here : (Fails : List Said → Role → List ℕ → List Said → Type 0) → HoldsAt Fails line n → Fails (take n line) role word (drop (n + 1) line)
   stands_here Fails stands =
       let same = same_Some (said_as stands.role stands.word) (said_as role word) (sym stands.here ∙ here) in
       let P : Said → Type 0 = λ s. Fails (take n line) s.role s.word (drop (n + 1) line) in
@@ -178,11 +176,11 @@ module _ (line : List Said) (n : ℕ) (role : Role) (word : List ℕ) (here : Is
   pub ranked : (k : ℕ) → (0 < k → IsUnknown (take n line) role word → ⊥) → (1 < k → LacksValue role (drop (n + 1) line) → ⊥) → (2 < k → IsBadNumber role word → ⊥)
       → (3 < k → HasBadEnding role word → ⊥) → (4 < k → IsSameName (take n line) role word → ⊥)
       → (fault : Fault) → word_of fault ≡ Some n → rank_of fault < k → HasFault line fault → ⊥
-  ranked k u l b e s (UnknownWord m) is less has = u less (stands_here (λ before role word behind. IsUnknown before role word) (rw (same_Some m n is) at has))
-  ranked k u l b e s (MissingValue m) is less has = l less (stands_here (λ before role word behind. LacksValue role behind) (rw (same_Some m n is) at has))
-  ranked k u l b e s (BadNumber m) is less has = b less (stands_here (λ before role word behind. IsBadNumber role word) (rw (same_Some m n is) at has))
-  ranked k u l b e s (BadEnding m) is less has = e less (stands_here (λ before role word behind. HasBadEnding role word) (rw (same_Some m n is) at has))
-  ranked k u l b e s (SameName m) is less has = s less (stands_here (λ before role word behind. IsSameName before role word) (rw (same_Some m n is) at has))
+  ranked k u l b e s (UnknownWord m) is less has = u less (stands_here (λ before role word after. IsUnknown before role word) (rw (same_Some m n is) at has))
+  ranked k u l b e s (MissingValue m) is less has = l less (stands_here (λ before role word after. LacksValue role after) (rw (same_Some m n is) at has))
+  ranked k u l b e s (BadNumber m) is less has = b less (stands_here (λ before role word after. IsBadNumber role word) (rw (same_Some m n is) at has))
+  ranked k u l b e s (BadEnding m) is less has = e less (stands_here (λ before role word after. HasBadEnding role word) (rw (same_Some m n is) at has))
+  ranked k u l b e s (SameName m) is less has = s less (stands_here (λ before role word after. IsSameName before role word) (rw (same_Some m n is) at has))
   ranked k u l b e s other is less has = none-some n is
 
   -- a fault of which the checks before it found none
@@ -203,7 +201,7 @@ rank_below other n is = absurd (none-some n is)
 pub ends_here : (items : List Item) (n : ℕ) → n < length items → IsTrue (nat_eq (n + 1) (length items)) ↔ (drop (n + 1) (line_of items) ≡ [])
 ends_here items n within =
     let long = length-map items said_of in
-    let both = nothing_behind (line_of items) n (omega arith) in
+    let both = nothing_after (line_of items) n (omega arith) in
     (λ t. both.0 ((Decides-eqb (n + 1) (length items)).0 t ∙ sym long), λ e. (Decides-eqb (n + 1) (length items)).1 (both.1 e ∙ long))
 
 -- a test that found nothing
@@ -216,7 +214,7 @@ before_is : (o : Option ℕ) (n : ℕ) → IsBefore o (Some n) → (k : ℕ) × 
 before_is (Some k) n less = (k, refl, less)
 before_is None n less = absurd less
 
--- the first fault of a word, where no word before it has one
+-- the first fault of a word, if no word before it has one
 pub first_found : (line : List Said) (n : ℕ) (fault : Fault) → ((k : ℕ) → k < n → HasNoneAt line k) → IsFirstAt line n fault → IsFirstFault line fault
 first_found line n fault clean is = record {
   has = is.has;
@@ -226,7 +224,7 @@ first_found line n fault clean is = record {
   ];
 }
 
--- a fault stands at a word that is there
+-- the word of a fault is there
 pub word_within : (line : List Said) (n : ℕ) (fault : Fault) → word_of fault ≡ Some n → HasFault line fault → n < length line
 word_within line n (UnknownWord m) is has = rw (← same_Some m n is) (slice_get_within line m (said_as has.role has.word) has.here)
 word_within line n (MissingValue m) is has = rw (← same_Some m n is) (slice_get_within line m (said_as has.role has.word) has.here)
@@ -234,9 +232,3 @@ word_within line n (BadNumber m) is has = rw (← same_Some m n is) (slice_get_w
 word_within line n (BadEnding m) is has = rw (← same_Some m n is) (slice_get_within line m (said_as has.role has.word) has.here)
 word_within line n (SameName m) is has = rw (← same_Some m n is) (slice_get_within line m (said_as has.role has.word) has.here)
 word_within line n other is has = absurd (none-some n is)
-
--- ---- answers
-
-pub fault_then : (X : Type 0) {P Q : Fault → Type 0} (e : WordError) → IfFault {X = X} (Err e) P → ((f : Fault) → P f → Q f) → IfFault {X = X} (Err e) Q
-fault_then X (error.Fault f) p then = then f p
-fault_then X error.NoMemory p then = tt

@@ -1,5 +1,5 @@
--- Words say one command or have one fault at most, and never both.
-use Rattle.std.proofs.Common.{◌≡◌, ◌<◌, ◌++◌, ◌⊎◌, ℕ, Bool, true, false, not, zero, suc, List, [], ◌∷◌, Result, Ok, Err, IfOk, Option, Some, None, filter, drop, get_or, refl, sym, ◌∙◌, ap, subst, inl, inr, arith}
+-- Words mean one command or have one fault at most, and never both.
+use Rattle.std.proofs.Common.{◌≡◌, ◌<◌, ◌++◌, ◌⊎◌, ℕ, Bool, true, false, not, zero, suc, List, [], ◌∷◌, Result, Ok, Err, Option, Some, None, filter, drop, get_or, refl, sym, ◌∙◌, ap, subst, inl, inr, arith}
 use Rattle.std.specs.Result.{IsErr, IsErrAnd}
 use Rattle.std.specs.List.{AllZip, slice_get}
 use Rattle.std.specs.Option.{is_some}
@@ -20,16 +20,17 @@ use Rattle.av_words.specs.declared.word_roles.Role.{Role}
 use Rattle.av_words.specs.declared.word_roles.Role.TheVariants.{Value, File}
 use Rattle.av_words.specs.declared.word_roles.Valued.{Valued}
 use Rattle.av_words.specs.declared.word_roles.Valued.TheVariants.{Workers, Slices, Order, Input, Generator, Graph}
-use Rattle.av_words.specs.declared.word_faults.WordError.{WordError}
-use Rattle.av_words.specs.declared.word_faults.WordError.TheVariants as error
+use Rattle.av_base.specs.declared.failure.Failure.{Failure}
+use Rattle.av_base.specs.declared.failure.Failure.TheVariants as error
 use Rattle.av_faults.specs.declared.fault.Fault.{Fault}
 use Rattle.av_faults.specs.declared.fault.Fault.TheVariants.{UnknownWord, MissingValue, BadNumber, BadEnding, SameName, NoGraph, NoOutput}
 use Rattle.av_words.specs.WordRoles.{Said, said}
 use Rattle.av_words.specs.WordValues.{IsLabelled, IsCount, IsMade, SaysOrder, SaysMade}
-use Rattle.av_words.specs.WordFaults.{Lacks, IsLast, HasFault, word_of, rank_of, IsBefore, Precedes, IsFirstFault, IfFault, Gives, Refuses}
+use Rattle.av_words.specs.WordFaults.{Lacks, IsLast, HasFault, word_of, rank_of, IsBefore, Precedes, IsFirstFault}
 use Rattle.av_words.specs.WordChecks.{HasNoneAt, IsLastOf}
-use Rattle.av_words.specs.CommandWords.{IsFaultless, SaysInputAs, SaysInput, is_input, Output, outputs_behind, IsLabelOf, SaysOutput, IsSet, SaysCommand, WordsSayOneThing}
+use Rattle.av_words.specs.CommandWords.{IsFaultless, SaysInputAs, SaysInput, is_input, Output, outputs_after, IsLabelOf, SaysOutput, IsSet, SaysCommand, WordsSayOneThing}
 use Rattle.av_words.proofs.WordCheckLemmas.{said_as}
+use Rattle.av_base.specs.Failures.{IfFault, Refuses}
 
 -- ---- faults
 
@@ -66,15 +67,15 @@ order_faults : (line : List Said) (f g : Fault) → HasFault line f → HasFault
 order_faults line f g has there = elim (order_words (word_of f) (word_of g)) [
   | inl same ↦ elim (cases_order (rank_of f) (rank_of g)) [
     | inl e ↦ inl (is_at line f has ∙ (ap (λ (k : ℕ). fault_at k (word_of f)) e ∙ (ap (fault_at (rank_of g)) same ∙ sym (is_at line g there))))
-    | inr less ↦ elim less [ inl before ↦ inr (inl (inr (same, before))) | inr behind ↦ inr (inr (inr (sym same, behind))) ]
+    | inr less ↦ elim less [ inl before ↦ inr (inl (inr (same, before))) | inr after ↦ inr (inr (inr (sym same, after))) ]
   ]
-  | inr apart ↦ elim apart [ inl before ↦ inr (inl (inl before)) | inr behind ↦ inr (inr (inl behind)) ]
+  | inr apart ↦ elim apart [ inl before ↦ inr (inl (inl before)) | inr after ↦ inr (inr (inl after)) ]
 ]
 
 pub same_fault : (line : List Said) (f g : Fault) → IsFirstFault line f → IsFirstFault line g → f ≡ g
 same_fault line f g a b = elim (order_faults line f g a.has b.has) [
   | inl same ↦ same
-  | inr apart ↦ elim apart [ inl before ↦ absurd (b.first f a.has before) | inr behind ↦ absurd (a.first g b.has behind) ]
+  | inr apart ↦ elim apart [ inl before ↦ absurd (b.first f a.has before) | inr after ↦ absurd (a.first g b.has after) ]
 ]
 
 -- ---- lists beside each other
@@ -92,7 +93,7 @@ zip_same {X} {Y} R one (x ∷ xs) (y ∷ ys) (z ∷ zs) p q =
 
 -- ---- values
 
-same_number : {least most : ℕ} (text : List ℕ) (a b : ℕ) → IsNumber least most text a → IsNumber least most text b → a ≡ b
+same_number : {lowest most : ℕ} (text : List ℕ) (a b : ℕ) → IsNumber lowest most text a → IsNumber lowest most text b → a ≡ b
 same_number text a b p q = p.value ∙ sym q.value
 
 same_made : (a b c d : List ℕ) (x y : InputWord) → IsMade a b c d x → IsMade a b c d y → x ≡ y
@@ -171,8 +172,8 @@ one_setting line option Says unset one x y p q = elim p [
   ]
 ]
 
-one_count : (least : ℕ) (value : List ℕ) (a b : ℕ) → IsCount least value a → IsCount least value b → a ≡ b
-one_count least value a b p q = same_number value a b p.number q.number
+one_count : (lowest : ℕ) (value : List ℕ) (a b : ℕ) → IsCount lowest value a → IsCount lowest value b → a ≡ b
+one_count lowest value a b p q = same_number value a b p.number q.number
 
 one_order : (value : List ℕ) (a b : List ℕ) → SaysOrder value a → SaysOrder value b → a ≡ b
 one_order value a b p q = zip_same (IsNumber 1 4) (λ text x y. same_number text x y) _ a b p q
@@ -183,7 +184,7 @@ pub same_command : (line : List Said) (a b : Command) → SaysCommand line a →
 same_command line a b p q =
     let inputs = zip_same SaysInput (λ item x y. one_input item.role item.word x y) (filter is_input line) a.inputs b.inputs p.inputs q.inputs in
     let text = same_last line (Value Graph) p.text.0 q.text.0 a.text b.text p.text.1 q.text.1 in
-    let outputs = zip_same SaysOutput one_output (outputs_behind None line) a.outputs b.outputs p.outputs q.outputs in
+    let outputs = zip_same SaysOutput one_output (outputs_after None line) a.outputs b.outputs p.outputs q.outputs in
     let workers = one_setting line Workers (IsCount 0) 0 (one_count 0) a.workers b.workers p.workers q.workers in
     let slices = one_setting line Slices (IsCount 1) 1 (one_count 1) a.slices b.slices p.slices q.slices in
     let order = one_setting line Order SaysOrder [] one_order a.order b.order p.order q.order in
@@ -206,7 +207,7 @@ words_say_one_thing = record {
 
 -- ---- a whole line
 
--- no fault stands at a word
+-- no word has a fault
 abbrev pub AreClean : List Said → Type 0
 AreClean line = (n : ℕ) → HasNoneAt line n
 
@@ -260,25 +261,14 @@ is_faultless line clean graph file NoGraph there = graph there
 is_faultless line clean graph file NoOutput there = file there
 is_faultless line clean graph file other there = there
 
--- ---- answers
+-- ---- results
 
--- what is answered is the command or the fault, so what words say is answered
-pub says_given : (line : List Said) (result : Result Command WordError) → IfOk result (SaysCommand line) → IfFault result (IsFirstFault line) → (command : Command) → SaysCommand line command → Gives command result
-says_given line (Ok x) ok fault command is = same_command line x command ok is
-says_given line (Err (error.Fault f)) ok fault command is = is.faultless f fault.has
-says_given line (Err error.NoMemory) ok fault command is = tt
-
-pub fault_given : (line : List Said) (result : Result Command WordError) → IfOk result (SaysCommand line) → IfFault result (IsFirstFault line) → (fault : Fault) → IsFirstFault line fault → Refuses fault result
-fault_given line (Ok x) ok found fault is = ok.faultless fault is.has
-fault_given line (Err (error.Fault f)) ok found fault is = same_fault line f fault found is
-fault_given line (Err error.NoMemory) ok found fault is = tt
-
--- the same where an error was passed on
-pub fault_passed : (line : List Said) (e : WordError) (result : Result Command WordError) → IsErr result × IsErrAnd result (λ d. d ≡ e) → IfFault {X = Unit {0}} (Err e) (IsFirstFault line) → (fault : Fault) → IsFirstFault line fault
-    → Refuses fault result
+-- an error that is passed on is the one fault
+pub fault_passed : (line : List Said) (e : Failure Fault) (result : Result Command (Failure Fault)) → IsErr result × IsErrAnd result (λ d. d ≡ e) → IfFault {X = Unit {0}} (Err e) (IsFirstFault line) → (fault : Fault) → IsFirstFault line fault
+    → Refuses (λ f. f ≡ fault) result
 fault_passed line e (Ok x) passed found fault is = absurd passed.1
 fault_passed line e (Err (error.Fault f)) passed found fault is =
-    same_fault line f fault (subst (λ (d : WordError). IfFault {X = Unit {0}} (Err d) (IsFirstFault line)) (sym passed.1) found) is
+    same_fault line f fault (subst (λ (d : Failure Fault). IfFault {X = Unit {0}} (Err d) (IsFirstFault line)) (sym passed.1) found) is
 fault_passed line e (Err error.NoMemory) passed found fault is = tt
 
 -- ---- the last word of a role

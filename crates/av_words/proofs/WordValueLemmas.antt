@@ -11,6 +11,10 @@ use Rattle.av_text.proofs.Runs.{run_unique}
 use Rattle.av_words.specs.declared.command_words.InputWord.{InputWord}
 use Rattle.av_words.specs.WordValues.{ends_in, IsLabelled, pieces, IsMade, SaysMade}
 
+-- what is read past the end of a list of texts
+abbrev pub no_text : Bor (List ℕ)
+no_text = record { ref_ptr = (0, 0); now = [] }
+
 -- ---- endings
 
 pub ends_tested : (r : Bool) (name ending tail : List ℕ) → IsTrue r ↔ (map to_ascii_lowercase tail ≡ map to_ascii_lowercase ending) → tail ≡ drop (length name - length ending) name → r ≡ ends_in name ending
@@ -19,16 +23,16 @@ ends_tested r name ending tail test is =
 
 -- ---- labels
 
--- the label that a text behind a `[` begins with
-pub same_label : {text rest label front behind : List ℕ} → text ≡ 91 ∷ rest → IsLabelled text label → IsRun is_label rest front behind → (label ≡ front) × (93 ∷ [] ≡ behind)
-same_label {text} {rest} {label} {front} {behind} e labelled run =
-    let both : 91 ∷ (label ++ 93 ∷ []) ≡ 91 ∷ (front ++ behind) = sym labelled.text_is ∙ (e ∙ ap (λ (xs : List ℕ). 91 ∷ xs) run.text_is) in
-    let tails : label ++ 93 ∷ [] ≡ front ++ behind = ap (λ (xs : List ℕ). drop 1 xs) both in
-    run_unique is_label label front (93 ∷ []) behind labelled.each run.each refl run.whole tails
+-- the label that a text after a `[` begins with
+pub same_label : {text rest label front after : List ℕ} → text ≡ 91 ∷ rest → IsLabelled text label → IsRun is_label rest front after → (label ≡ front) × (93 ∷ [] ≡ after)
+same_label {text} {rest} {label} {front} {after} e labelled run =
+    let both : 91 ∷ (label ++ 93 ∷ []) ≡ 91 ∷ (front ++ after) = sym labelled.text_is ∙ (e ∙ ap (λ (xs : List ℕ). 91 ∷ xs) run.text_is) in
+    let tails : label ++ 93 ∷ [] ≡ front ++ after = ap (λ (xs : List ℕ). drop 1 xs) both in
+    run_unique is_label label front (93 ∷ []) after labelled.each run.each refl run.whole tails
 
 -- ---- lists beside each other
 
--- a member of the first that nothing stands beside
+-- a member of the first that has no partner
 pub zip_fails : {X Y : Type 0} (R : X → Y → Type 0) (xs : List X) (i : ℕ) (x : X) → slice_get xs i ≡ Some x → ((y : Y) → R x y → ⊥) → (ys : List Y) → AllZip R xs ys → ⊥
 zip_fails R [] i x here none ys zip = absurd (cc)
 zip_fails R (z ∷ zs) i x here none [] zip = zip

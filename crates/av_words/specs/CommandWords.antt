@@ -1,4 +1,4 @@
--- The command that words say (the ffmpeg documentation's options `-i`, `-filter_complex`, `-map` and `-y`; the others, the
+-- The command that words mean (the ffmpeg documentation's options `-i`, `-filter_complex`, `-map` and `-y`; the others, the
 -- endings, and the order of faults are this project's own).
 use Rattle.std.specs.Prelude.{◌≡◌, ◌↔◌, ◌⊎◌, ℕ, Bool, true, false, List, [], ◌∷◌, ◌++◌, Option, Some, None, filter, IsTrue}
 use Rattle.std.specs.List.{AllZip}
@@ -13,7 +13,7 @@ use Rattle.av_words.specs.declared.word_roles.Valued.TheVariants.{Workers, Slice
 use Rattle.av_faults.specs.declared.fault.Fault.{Fault}
 use Rattle.av_words.specs.WordRoles.{Said, said}
 use Rattle.av_words.specs.WordValues.{media_of, ending_of, IsLabelled, IsCount, SaysOrder, SaysMade}
-use Rattle.av_words.specs.WordFaults.{Has, Lacks, IsLast, map_behind, HasFault, IsFirstFault}
+use Rattle.av_words.specs.WordFaults.{Has, Lacks, IsLast, map_after, HasFault, IsFirstFault}
 
 -- ---- inputs
 
@@ -37,22 +37,22 @@ SaysInput item input = SaysInputAs item.role item.word input
 
 -- ---- outputs
 
--- an output file, and the value of the `-map` that stands for it
+-- an output file, and the value of the `-map` before it
 pub record Output : Type 0 where
   pub map : Option (List ℕ)
   pub name : List ℕ
 
--- the output file that a word is, if it is one, where this value of `-map` waits
+-- the output file that a word is, if it is one, while this value of `-map` waits
 abbrev pub output_at : Option (List ℕ) → Role → List ℕ → List Output
 output_at map File word = (record { map = map; name = word }) ∷ []
 output_at map other word = []
 
 -- all of them
-abbrev pub outputs_behind : Option (List ℕ) → List Said → List Output
-outputs_behind map [] = []
-outputs_behind map (item ∷ line) = output_at map item.role item.word ++ outputs_behind (map_behind item.role item.word map) line
+abbrev pub outputs_after : Option (List ℕ) → List Said → List Output
+outputs_after map [] = []
+outputs_after map (item ∷ line) = output_at map item.role item.word ++ outputs_after (map_after item.role item.word map) line
 
--- the label that a value of `-map` names, or none where there is no `-map`
+-- the label that a value of `-map` names, or none if there is no `-map`
 abbrev pub IsLabelOf : Option (List ℕ) → Option (List ℕ) → Type 0
 IsLabelOf None label = label ≡ None
 IsLabelOf (Some value) None = ⊥
@@ -66,7 +66,7 @@ pub record SaysOutput (output : Output) (word : OutputWord) : Type 0 where
 
 -- ---- settings
 
--- what the last value of an option says, or what is meant where there is none
+-- what the last value of an option says, or what is meant if there is none
 abbrev pub IsSet : {X : Type 0} → List Said → Valued → (List ℕ → X → Type 0) → X → X → Type 0
 IsSet line option Says unset x = (Lacks line (Value option) × (x ≡ unset)) ⊎ ((at : ℕ) × (value : List ℕ) × IsLast line (Value option) at value × Says value x)
 
@@ -79,7 +79,7 @@ pub record SaysCommand (line : List Said) (command : Command) : Type 0 where
   pub faultless : IsFaultless line
   pub inputs : AllZip SaysInput (filter is_input line) command.inputs
   pub text : (at : ℕ) × IsLast line (Value Graph) at command.text
-  pub outputs : AllZip SaysOutput (outputs_behind None line) command.outputs
+  pub outputs : AllZip SaysOutput (outputs_after None line) command.outputs
   pub workers : IsSet line Workers (IsCount 0) 0 command.workers
   pub slices : IsSet line Slices (IsCount 1) 1 command.slices
   pub order : IsSet line Order SaysOrder [] command.order
@@ -89,11 +89,11 @@ pub record SaysCommand (line : List Said) (command : Command) : Type 0 where
 abbrev pub IsCommand : List (List ℕ) → Command → Type 0
 IsCommand words command = SaysCommand (said words) command
 
--- its fault: the one at the least word, and of those at one word the one of the least rank
+-- its fault: the one at the first word that has one, and of those at one word the one of the lowest rank
 abbrev pub IsWordFault : List (List ℕ) → Fault → Type 0
 IsWordFault words fault = IsFirstFault (said words) fault
 
--- words say one command or have one fault, and never both
+-- words mean one command or have one fault, and never both
 pub record WordsSayOneThing : Type 0 where
   pub one_command : (words : List (List ℕ)) (a b : Command) → IsCommand words a → IsCommand words b → a ≡ b
   pub one_fault : (words : List (List ℕ)) (f g : Fault) → IsWordFault words f → IsWordFault words g → f ≡ g

@@ -26,11 +26,11 @@ pub record HasRead (before : List Said) (seen : Seen) : Type 0 where
 abbrev pub IsLastOf : List Said → Role → Option ℕ → Type 0
 IsLastOf line role last = MatchOption last (Lacks line role) (λ at. (word : List ℕ) × IsLast line role at word)
 
--- no fault stands at this word
+-- there is no fault at this word
 abbrev pub HasNoneAt : List Said → ℕ → Type 0
 HasNoneAt line n = (fault : Fault) → word_of fault ≡ Some n → ¬ HasFault line fault
 
--- a fault stands at this word, and none of a lower rank
+-- there is a fault at this word, and none of a lower rank
 pub record IsFirstAt (line : List Said) (n : ℕ) (fault : Fault) : Type 0 where
   pub has : HasFault line fault
   pub word : word_of fault ≡ Some n

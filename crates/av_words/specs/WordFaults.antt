@@ -1,33 +1,31 @@
 -- The faults of a command line, and which of them comes first (this project's own).
-use Rattle.std.specs.Prelude.{◌≡◌, ◌<◌, ◌+◌, ◌⊎◌, ℕ, List, [], ◌∷◌, Option, Some, None, take, drop, Result, Ok, Err, IsSome}
+use Rattle.std.specs.Prelude.{◌≡◌, ◌<◌, ◌+◌, ◌⊎◌, ℕ, List, [], ◌∷◌, Option, Some, None, take, drop, IsSome}
 use Rattle.std.specs.List.{slice_get}
 use Rattle.av_words.specs.declared.command_words.InputWord.{InputWord}
 use Rattle.av_words.specs.declared.word_roles.Role.{Role}
 use Rattle.av_words.specs.declared.word_roles.Role.TheVariants.{Names, Value, File, Unknown}
 use Rattle.av_words.specs.declared.word_roles.Valued.{Valued}
 use Rattle.av_words.specs.declared.word_roles.Valued.TheVariants.{Workers, Slices, Order, Input, Generator, Graph, Map}
-use Rattle.av_words.specs.declared.word_faults.WordError.{WordError}
-use Rattle.av_words.specs.declared.word_faults.WordError.TheVariants as error
 use Rattle.av_faults.specs.declared.fault.Fault.{Fault}
 use Rattle.av_faults.specs.declared.fault.Fault.TheVariants.{UnknownWord, MissingValue, BadNumber, BadEnding, SameName, NoGraph, NoOutput}
 use Rattle.av_words.specs.WordRoles.{Said}
 use Rattle.av_words.specs.WordValues.{media_of, ending_of, IsLabelled, IsCount, SaysOrder, SaysMade}
 
--- ---- what stands among words
+-- ---- words by their roles
 
--- a word stands there as this
+-- the word of this number has this role
 abbrev pub IsAt : List Said → ℕ → Role → List ℕ → Type 0
 IsAt line n role word = slice_get line n ≡ Some (record { role = role; word = word })
 
--- a word stands among these as this
+-- one of these words has this role
 abbrev pub Has : List Said → Role → List ℕ → Type 0
 Has line role word = (n : ℕ) × IsAt line n role word
 
--- no word stands among these as this
+-- no word of these has this role
 abbrev pub Lacks : List Said → Role → Type 0
 Lacks line role = (word : List ℕ) → ¬ Has line role word
 
--- the last word that stands as this
+-- the last word that has this role
 pub record IsLast (line : List Said) (role : Role) (at : ℕ) (word : List ℕ) : Type 0 where
   pub here : IsAt line at role word
   pub later : (n : ℕ) (other : List ℕ) → at < n → ¬ IsAt line n role other
@@ -35,15 +33,15 @@ pub record IsLast (line : List Said) (role : Role) (at : ℕ) (word : List ℕ) 
 -- ---- labels for output files
 
 -- the value of `-map` that waits for an output file, after a word
-abbrev pub map_behind : Role → List ℕ → Option (List ℕ) → Option (List ℕ)
-map_behind (Value Map) word map = Some word
-map_behind File word map = None
-map_behind other word map = map
+abbrev pub map_after : Role → List ℕ → Option (List ℕ) → Option (List ℕ)
+map_after (Value Map) word map = Some word
+map_after File word map = None
+map_after other word map = map
 
 -- the same after words
 abbrev pub waiting : Option (List ℕ) → List Said → Option (List ℕ)
 waiting map [] = map
-waiting map (item ∷ line) = waiting (map_behind item.role item.word map) line
+waiting map (item ∷ line) = waiting (map_after item.role item.word map) line
 
 -- ---- the faults of a word: by what it is, and by the words before it or after it
 
@@ -56,9 +54,9 @@ IsUnknown before other word = ⊥
 
 -- it is a `-map` without an output file after it, or another option without its value
 abbrev pub LacksValue : Role → List Said → Type 0
-LacksValue (Names Map) behind = Lacks behind File
-LacksValue (Names option) behind = behind ≡ []
-LacksValue other behind = ⊥
+LacksValue (Names Map) after = Lacks after File
+LacksValue (Names option) after = after ≡ []
+LacksValue other after = ⊥
 
 -- a value that its option takes; options of names and texts take any
 abbrev pub Takes : Valued → List ℕ → Type 0
@@ -87,27 +85,27 @@ IsSameName before other word = ⊥
 
 -- ---- the faults of a command line
 
--- something is so of the word of this number, by the words before it and after it
-pub record Stands (Fails : List Said → Role → List ℕ → List Said → Type 0) (line : List Said) (n : ℕ) : Type 0 where
+-- something holds for the word of this number, by the words before it and after it
+pub record HoldsAt (Fails : List Said → Role → List ℕ → List Said → Type 0) (line : List Said) (n : ℕ) : Type 0 where
   pub role : Role
   pub word : List ℕ
   pub here : IsAt line n role word
   pub fails : Fails (take n line) role word (drop (n + 1) line)
 
--- the line has this fault; the faults of texts, limits and hosts don't stand in words
+-- the line has this fault; the faults of texts, limits and hosts aren't faults of words
 abbrev pub HasFault : List Said → Fault → Type 0
-HasFault line (UnknownWord n) = Stands (λ before role word behind. IsUnknown before role word) line n
-HasFault line (MissingValue n) = Stands (λ before role word behind. LacksValue role behind) line n
-HasFault line (BadNumber n) = Stands (λ before role word behind. IsBadNumber role word) line n
-HasFault line (BadEnding n) = Stands (λ before role word behind. HasBadEnding role word) line n
-HasFault line (SameName n) = Stands (λ before role word behind. IsSameName before role word) line n
+HasFault line (UnknownWord n) = HoldsAt (λ before role word after. IsUnknown before role word) line n
+HasFault line (MissingValue n) = HoldsAt (λ before role word after. LacksValue role after) line n
+HasFault line (BadNumber n) = HoldsAt (λ before role word after. IsBadNumber role word) line n
+HasFault line (BadEnding n) = HoldsAt (λ before role word after. HasBadEnding role word) line n
+HasFault line (SameName n) = HoldsAt (λ before role word after. IsSameName before role word) line n
 HasFault line NoGraph = Lacks line (Value Graph)
 HasFault line NoOutput = Lacks line File
 HasFault line other = ⊥
 
 -- ---- which comes first
 
--- the word at which a fault stands; others stand after all words
+-- the word that a fault is at; others come after all words
 abbrev pub word_of : Fault → Option ℕ
 word_of (UnknownWord n) = Some n
 word_of (MissingValue n) = Some n
@@ -141,23 +139,3 @@ Precedes f g = IsBefore (word_of f) (word_of g) ⊎ ((word_of f ≡ word_of g) �
 pub record IsFirstFault (line : List Said) (fault : Fault) : Type 0 where
   pub has : HasFault line fault
   pub first : (other : Fault) → HasFault line other → ¬ Precedes other fault
-
--- ---- results
-
--- a fault that is returned
-abbrev pub IfFault : {X : Type 0} → Result X WordError → (Fault → Type 0) → Type 0
-IfFault (Ok x) P = Unit {0}
-IfFault (Err (error.Fault f)) P = P f
-IfFault (Err error.NoMemory) P = Unit {0}
-
--- this value, or out of memory
-abbrev pub Gives : {X : Type 0} → X → Result X WordError → Type 0
-Gives x (Ok y) = y ≡ x
-Gives x (Err (error.Fault f)) = ⊥
-Gives x (Err error.NoMemory) = Unit {0}
-
--- this fault, or out of memory
-abbrev pub Refuses : {X : Type 0} → Fault → Result X WordError → Type 0
-Refuses f (Ok x) = ⊥
-Refuses f (Err (error.Fault g)) = g ≡ f
-Refuses f (Err error.NoMemory) = Unit {0}

@@ -40,13 +40,13 @@ taker_of (Names option) = Some option
 taker_of other = None
 
 -- words after an option that takes the first of them, or after none
-abbrev pub said_behind : Option Valued → List (List ℕ) → List Said
-said_behind taker [] = []
-said_behind taker (word ∷ words) = (record { role = role_in taker word; word = word }) ∷ said_behind (taker_of (role_in taker word)) words
+abbrev pub said_after : Option Valued → List (List ℕ) → List Said
+said_after taker [] = []
+said_after taker (word ∷ words) = (record { role = role_in taker word; word = word }) ∷ said_after (taker_of (role_in taker word)) words
 
 -- the words of a command line, and what each is
 abbrev pub said : List (List ℕ) → List Said
-said words = said_behind None words
+said words = said_after None words
 
 -- an item that the code keeps, and all of them
 abbrev pub said_of : Item → Said

@@ -1,4 +1,4 @@
--- What the values of options say, and what files are by their names (this project's own, but for the digits and the labels
+-- What the values of options mean, and what files are by their names (this project's own, but for the digits and the labels
 -- of the FFmpeg Filters Documentation).
 use Rattle.std.specs.Prelude.{◌≡◌, ◌==◌, ◌-◌, ◌<◌, ◌≤◌, ◌^◌, ◌++◌, ℕ, Bool, true, List, [], ◌∷◌, Option, Some, None, map, drop, length, bytes_eq, codes, if◌then◌else◌}
 use Rattle.std.specs.Char.{to_ascii_lowercase}
@@ -6,6 +6,7 @@ use Rattle.std.specs.List.{AllByRecursion, AllZip, slice_split}
 use Rattle.av_base.specs.declared.formats.Media.{Media}
 use Rattle.av_base.specs.declared.formats.Media.TheVariants.{Video, Audio}
 use Rattle.av_base.specs.declared.formats.PixelFormat.TheVariants.{Yuv420p}
+use Rattle.av_base.specs.Bounds.{greatest_side, greatest_picture}
 use Rattle.av_base.specs.Planes.{picture_bytes_of}
 use Rattle.av_text.specs.Classes.{is_label}
 use Rattle.av_text.specs.Numbers.{IsNumber}
@@ -38,11 +39,23 @@ pub record IsLabelled (text label : List ℕ) : Type 0 where
 
 -- ---- numbers
 
--- a number of workers or slices: 1 to 4 digits, at most 64
-pub record IsCount (least : ℕ) (text : List ℕ) (n : ℕ) : Type 0 where
+-- the greatest number of workers and of slices
+abbrev pub greatest_count : ℕ
+greatest_count = 64
+
+-- the greatest seed of a made input
+abbrev pub greatest_seed : ℕ
+greatest_seed = 2 ^ 32 - 1
+
+-- the greatest number of frames of a made input
+abbrev pub greatest_length : ℕ
+greatest_length = 100_000
+
+-- a number of workers or slices, of 1 to 4 digits
+pub record IsCount (lowest : ℕ) (text : List ℕ) (n : ℕ) : Type 0 where
   pub number : IsNumber 1 4 text n
-  pub enough : least ≤ n
-  pub few : n ≤ 64
+  pub enough : lowest ≤ n
+  pub few : n ≤ greatest_count
 
 -- the pieces of a text between marks
 abbrev pub pieces : ℕ → List ℕ → List (List ℕ)
@@ -53,9 +66,9 @@ abbrev pub SaysOrder : List ℕ → List ℕ → Type 0
 SaysOrder text numbers = AllZip (IsNumber 1 4) (pieces 124 text) numbers
 
 -- a number of 1 to 10 digits in this range
-pub record IsWithin (least most : ℕ) (text : List ℕ) (n : ℕ) : Type 0 where
+pub record IsWithin (lowest most : ℕ) (text : List ℕ) (n : ℕ) : Type 0 where
   pub number : IsNumber 1 10 text n
-  pub enough : least ≤ n
+  pub enough : lowest ≤ n
   pub few : n ≤ most
 
 -- a made input of a seed, a width, a height and a number of frames
@@ -64,11 +77,11 @@ pub record IsMade (seed_text width_text height_text frames_text : List ℕ) (inp
   pub width : ℕ
   pub height : ℕ
   pub frames : ℕ
-  pub is_seed : IsWithin 0 4_294_967_295 seed_text seed
-  pub is_width : IsWithin 1 8192 width_text width
-  pub is_height : IsWithin 1 8192 height_text height
-  pub is_frames : IsWithin 0 100_000 frames_text frames
-  pub bytes_fit : picture_bytes_of Yuv420p width height ≤ 2 ^ 26
+  pub is_seed : IsWithin 0 greatest_seed seed_text seed
+  pub is_width : IsWithin 1 greatest_side width_text width
+  pub is_height : IsWithin 1 greatest_side height_text height
+  pub is_frames : IsWithin 0 greatest_length frames_text frames
+  pub bytes_fit : picture_bytes_of Yuv420p width height ≤ greatest_picture
   pub input_is : input ≡ Made seed width height frames
 
 -- the four, with a `:` between each two

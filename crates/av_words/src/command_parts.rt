@@ -5,8 +5,8 @@ ghost use Rattle.av_words.specs.declared.word_roles.Role.TheVariants.{Value};
 ghost use Rattle.av_words.specs.declared.word_roles.Valued.TheVariants.{Graph, Order};
 ghost use Rattle.av_words.specs.WordRoles.{said_of, line_of};
 ghost use Rattle.av_words.specs.WordValues.{IsCount, SaysOrder};
-ghost use Rattle.av_words.specs.WordFaults.{Has, IsLast, IsBadNumber, HasBadEnding, map_behind};
-ghost use Rattle.av_words.specs.CommandWords.{IsFaultless, is_input, SaysInput, IsLabelOf, output_at, outputs_behind, SaysOutput, IsSet, SaysCommand};
+ghost use Rattle.av_words.specs.WordFaults.{Has, IsLast, IsBadNumber, HasBadEnding, map_after};
+ghost use Rattle.av_words.specs.CommandWords.{IsFaultless, is_input, SaysInput, IsLabelOf, output_at, outputs_after, SaysOutput, IsSet, SaysCommand};
 ghost use Rattle.av_words.specs.WordChecks.{HasLabel, plain};
 
 use crate::command_words::{Command, InputWord, OutputWord};
@@ -72,8 +72,8 @@ fn label_of(alloc: Global, map: Option<&str>) -> Result<Option<Text>, NoMemory>
 }
 
 /// The value of `-map` that waits for an output file, after a word.
-fn map_behind<'a>(item: Item<'a>, map: Option<&'a str>) -> Option<&'a str>
-    ensures { plain result ≡ map_behind item.entry.role item.entry.word.now (plain map.entry) }
+fn map_after<'a>(item: Item<'a>, map: Option<&'a str>) -> Option<&'a str>
+    ensures { plain result ≡ map_after item.entry.role item.entry.word.now (plain map.entry) }
 {
     match item.role {
         Role::Value(Valued::Map) => Some(item.word),
@@ -104,32 +104,32 @@ fn output_of(alloc: Global, item: Item, map: Option<&str>) -> Result<Option<Outp
 /// The output files, in order.
 fn list_outputs(alloc: Global, items: &[Item]) -> Result<List<OutputWord>, NoMemory>
     requires { IsFaultless (line_of items.now) }
-    ensures { IfOk result (AllZip SaysOutput (outputs_behind None (line_of items.now))) }
+    ensures { IfOk result (AllZip SaysOutput (outputs_after None (line_of items.now))) }
 {
     let mut outputs = Vec::new(alloc);
     let mut map = None;
     'items: for item in items {
         keep(&mut outputs, output_of(alloc, *item, map)?)?;
-        map = map_behind(*item, map);
+        map = map_after(*item, map);
     }
     Ok(List::new(outputs))
 }
 
-/// The number that the last value of an option says, or where there is none, the least.
-fn count_of(items: &[Item], option: Valued, least: u32) -> u32
-    requires { (value : List ℕ) → Has (line_of items.now) (Value option) value → ((n : ℕ) → ¬ IsCount least value n) → ⊥ }
-    ensures { IsSet (line_of items.now) option (IsCount least) least result }
+/// The number in the last value of an option, or the lowest if there is none.
+fn count_of(items: &[Item], option: Valued, lowest: u32) -> u32
+    requires { (value : List ℕ) → Has (line_of items.now) (Value option) value → ((n : ℕ) → ¬ IsCount lowest value n) → ⊥ }
+    ensures { IsSet (line_of items.now) option (IsCount lowest) lowest result }
 {
     let Some(value) = last_value(items, option) else {
-        return least;
+        return lowest;
     };
-    match read_count(value, least) {
+    match read_count(value, lowest) {
         Some(count) => count,
-        None => least,
+        None => lowest,
     }
 }
 
-/// The order that the last value says, or where there is none, an empty one.
+/// The order in the last value, or an empty one if there is none.
 fn order_of(alloc: Global, items: &[Item]) -> Result<List<u32>, NoMemory>
     requires { IsFaultless (line_of items.now) }
     ensures { IfOk result (IsSet (line_of items.now) Order SaysOrder []) }

@@ -1,9 +1,9 @@
-//! The command that words say.
-ghost use Rattle.std.specs.Prelude.{map, string_bytes, IfOk};
+//! The command that words mean.
+ghost use Rattle.std.specs.Prelude.{◌≡◌, map, string_bytes, IfOk};
 ghost use Rattle.av_words.specs.declared.command_words.Command.{Command};
 ghost use Rattle.av_faults.specs.declared.fault.Fault.{Fault};
-ghost use Rattle.av_words.specs.WordFaults.{IfFault, Gives, Refuses};
 ghost use Rattle.av_words.specs.CommandWords.{IsCommand, IsWordFault};
+ghost use Rattle.av_base.specs.Failures.{IfFault, Gives, Refuses};
 
 use crate::command_parts::command_of;
 use crate::word_checks::check_items;
@@ -55,9 +55,9 @@ pub struct Command {
     pub text: Text,
     /// The outputs, in order.
     pub outputs: List<OutputWord>,
-    /// The number of workers, at most 64.
+    /// The number of workers, at most `greatest_count`.
     pub workers: u32,
-    /// The number of slices, 1 to 64.
+    /// The number of slices, from 1 to `greatest_count`.
     pub slices: u32,
     /// The order of filters, as the numbers were written.
     pub order: List<u32>,
@@ -65,18 +65,18 @@ pub struct Command {
     pub report: bool,
 }
 
-/// The command that words say.
+/// The command that words mean.
 ///
 /// # Errors
-/// The fault at the least word, and of those at one word the one of the least rank: `UnknownWord`, `MissingValue`,
+/// The fault at the first word that has one, and of those at one word the one of the lowest rank: `UnknownWord`, `MissingValue`,
 /// `BadNumber`, `BadEnding`, `SameName`. After all these `NoGraph`, then `NoOutput`. Or out of memory.
 pub fn read_words(alloc: Global, words: &[String]) -> Result<Command, WordError>
     ensures command { IfOk result (IsCommand (map string_bytes words.now)) }
-    // Words that say a command have no fault, and say no other.
-    ensures says { (command : Command) → IsCommand (map string_bytes words.now) command → Gives command result }
+    // Words that mean a command have no fault, and mean no other.
+    ensures says { (command : Command) → IsCommand (map string_bytes words.now) command → Gives (λ c. c ≡ command) result }
     ensures fault { IfFault result (IsWordFault (map string_bytes words.now)) }
-    // Words that have a fault say no command, and have no other.
-    ensures faulty { (fault : Fault) → IsWordFault (map string_bytes words.now) fault → Refuses fault result }
+    // Words that have a fault mean no command, and have no other.
+    ensures faulty { (fault : Fault) → IsWordFault (map string_bytes words.now) fault → Refuses (λ f. f ≡ fault) result }
 {
     let items = read_items(alloc, words)?;
     let items = items.as_slice();

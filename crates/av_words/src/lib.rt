@@ -1,5 +1,4 @@
-//! Command lines: what each word is, the first fault that stands in the words, and the command that they say where there
-//! is none.
+//! Command lines: what each word is, the first fault of the words, and the command that they mean if there is none.
 #![tactic(auto)]
 
 mod command_parts;

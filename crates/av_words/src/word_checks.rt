@@ -2,10 +2,11 @@
 ghost use Rattle.std.specs.Prelude.{Option, Err, ◌≡◌, ◌<◌, ◌+◌, ◌↔◌, ◌++◌, ◌∷◌, [], ℕ, List, length, take, drop, map, IsTrue, IfOk};
 ghost use Rattle.std.specs.Option.{is_some};
 ghost use Rattle.av_words.specs.declared.word_roles.Role.TheVariants.{File};
-ghost use Rattle.av_words.specs.declared.word_faults.WordError.{WordError};
 ghost use Rattle.av_words.specs.WordRoles.{Said, line_of};
-ghost use Rattle.av_words.specs.WordFaults.{Lacks, map_behind, IsUnknown, LacksValue, IsBadNumber, HasBadEnding, IsSameName, IfFault, IsFirstFault};
+ghost use Rattle.av_words.specs.WordFaults.{Lacks, map_after, IsUnknown, LacksValue, IsBadNumber, HasBadEnding, IsSameName, IsFirstFault};
 ghost use Rattle.av_words.specs.WordChecks.{Knows, HasRead, IsFirstAt, HasNoneAt, IsLastOf};
+ghost use Rattle.av_base.specs.Failures.{IfFault};
+ghost use Rattle.av_base.specs.declared.failure.Failure.{Failure};
 
 use crate::word_faults::WordError;
 use crate::word_roles::{Item, Role, Valued, is_same, last_of};
@@ -27,8 +28,8 @@ fn note_name<'a>(names: &mut IndexSet<&'a str>, item: Item<'a>, role: Role) -> R
 }
 
 /// Whether a `-map` waits for an output file, after a word.
-fn waits_behind(role: Role, waits: bool) -> bool
-    ensures { (word : List ℕ) (map : Option (List ℕ)) → waits ≡ is_some map → result ≡ is_some (map_behind role word map) }
+fn waits_after(role: Role, waits: bool) -> bool
+    ensures { (word : List ℕ) (map : Option (List ℕ)) → waits ≡ is_some map → result ≡ is_some (map_after role word map) }
 {
     match role {
         Role::Value(Valued::Map) => true,
@@ -68,7 +69,7 @@ impl<'a> Seen<'a> {
     {
         note_name(&mut self.inputs, item, Role::Value(Valued::Input))?;
         note_name(&mut self.outputs, item, Role::File)?;
-        self.waits = waits_behind(item.role, self.waits);
+        self.waits = waits_after(item.role, self.waits);
         Ok(())
     }
 }
@@ -87,8 +88,8 @@ fn is_unknown(item: Item, seen: &Seen) -> bool
 
 /// Whether the word is an option without its value, or without the output file that it wants.
 fn lacks_value(role: Role, is_last: bool, has_file: bool) -> bool
-    ensures { (behind : List Said) → (IsTrue is_last ↔ (behind ≡ [])) → (IsTrue has_file → ¬ Lacks behind File) → (¬ IsTrue has_file → Lacks behind File)
-        → IsTrue result ↔ LacksValue role behind }
+    ensures { (after : List Said) → (IsTrue is_last ↔ (after ≡ [])) → (IsTrue has_file → ¬ Lacks after File) → (¬ IsTrue has_file → Lacks after File)
+        → IsTrue result ↔ LacksValue role after }
 {
     match role {
         Role::Names(Valued::Map) => !has_file,
@@ -132,9 +133,9 @@ fn is_same_name(item: Item, seen: &Seen) -> bool
     }
 }
 
-/// Whether the last output file stands after a word.
-fn has_file_behind(number: usize, last_file: Option<usize>) -> bool
-    ensures behind { (line : List Said) → IsLastOf line File last_file → IsTrue result → ¬ Lacks (drop (number + 1) line) File }
+/// Whether the last output file comes after a word.
+fn has_file_after(number: usize, last_file: Option<usize>) -> bool
+    ensures after { (line : List Said) → IsLastOf line File last_file → IsTrue result → ¬ Lacks (drop (number + 1) line) File }
     ensures none { (line : List Said) → IsLastOf line File last_file → ¬ IsTrue result → Lacks (drop (number + 1) line) File }
 {
     match last_file {
@@ -145,7 +146,7 @@ fn has_file_behind(number: usize, last_file: Option<usize>) -> bool
 
 /// The error of a fault.
 fn refuse(fault: Fault) -> Result<(), WordError>
-    ensures { result ≡ Err (WordError.Fault fault) }
+    ensures { result ≡ Err (Failure.Fault fault) }
 {
     Err(WordError::Fault(fault))
 }
@@ -170,7 +171,7 @@ fn check_item(
     if is_unknown(item, seen) {
         return refuse(Fault::UnknownWord { word });
     }
-    if lacks_value(item.role, is_last, has_file_behind(number, last_file)) {
+    if lacks_value(item.role, is_last, has_file_after(number, last_file)) {
         return refuse(Fault::MissingValue { word });
     }
     if is_bad_number(alloc, item)? {

@@ -1,4 +1,4 @@
-//! Command lines and what they say, by hand.
+//! Command lines and what they mean, by hand.
 
 use crate::{Command, InputWord, OutputWord, WordError, read_words};
 use av_base::Media;
@@ -68,7 +68,7 @@ fn show(alloc: Global, command: &Command) -> Result<String, AllocError> {
     Ok(text)
 }
 
-/// What a command line says, in short, or nothing where it has a fault.
+/// What a command line means, in short, or nothing if it has a fault.
 fn said(alloc: Global, line: &[&str]) -> Result<String, AllocError> {
     let words = words(alloc, line)?;
     match read_words(alloc, &words) {

@@ -4,21 +4,15 @@ ghost use Rattle.av_words.specs.declared.command_words.InputWord.{InputWord};
 ghost use Rattle.av_words.specs.WordValues.{ends_in, media_of, ending_of, IsLabelled, IsCount, IsWithin, pieces, SaysOrder, IsMade, SaysMade};
 
 use crate::command_words::InputWord;
-use av_base::{Media, PixelFormat, picture_bytes};
+use av_base::{Media, PICTURE_MAX, PixelFormat, SIDE_MAX, picture_bytes};
 use av_text::{Class, read_digits, split_run};
 use graph_plan::Ending;
 use std::alloc::{AllocError, Global};
 
-/// The greatest number of workers, and of slices.
+/// The greatest number of workers, and of slices (`greatest_count`).
 const COUNT_MAX: u32 = 64;
 
-/// The greatest width and height of a made picture.
-const SIZE_MAX: u32 = 8192;
-
-/// The greatest number of bytes of a made picture.
-const BYTES_MAX: u64 = 1 << 26;
-
-/// The greatest number of made frames.
+/// The greatest number of made frames (`greatest_length`).
 const FRAMES_MAX: u32 = 100_000;
 
 /// Whether a name has this ending, in letters of either case.
@@ -58,25 +52,25 @@ pub(crate) fn ending_of(name: &str) -> Option<Ending>
     }
 }
 
-/// The label that stands in brackets, if the text is that.
+/// The label in brackets, if the text is that.
 pub(crate) fn label_in(text: &str) -> Option<&str>
     ensures label { IfSome result (λ l. IsLabelled text.now l.now) }
     ensures none { IsNone result → (label : List ℕ) → IsLabelled text.now label → ⊥ }
 {
-    let (label, behind) = split_run(text.strip_prefix('[')?, Class::Label);
-    if label.is_empty() || behind != "]" {
+    let (label, after) = split_run(text.strip_prefix('[')?, Class::Label);
+    if label.is_empty() || after != "]" {
         return None;
     }
     Some(label)
 }
 
-/// A number of workers or slices, at least `least`.
-pub(crate) fn read_count(text: &str, least: u32) -> Option<u32>
-    ensures count { IfSome result (IsCount least text.now) }
-    ensures none { IsNone result → (n : ℕ) → IsCount least text.now n → ⊥ }
+/// A number of workers or slices, at least `lowest`.
+pub(crate) fn read_count(text: &str, lowest: u32) -> Option<u32>
+    ensures count { IfSome result (IsCount lowest text.now) }
+    ensures none { IsNone result → (n : ℕ) → IsCount lowest text.now n → ⊥ }
 {
     let count = read_digits(text, 1, 4)? as u32;
-    if count < least || count > COUNT_MAX {
+    if count < lowest || count > COUNT_MAX {
         return None;
     }
     Some(count)
@@ -107,12 +101,12 @@ pub(crate) fn read_order(alloc: Global, text: &str) -> Result<Option<Vec<u32>>, 
 }
 
 /// A number of a made input, in its range.
-fn number_within(text: &str, least: u32, most: u32) -> Option<u32>
-    ensures number { IfSome result (IsWithin least most text.now) }
-    ensures none { IsNone result → (n : ℕ) → IsWithin least most text.now n → ⊥ }
+fn number_within(text: &str, lowest: u32, most: u32) -> Option<u32>
+    ensures number { IfSome result (IsWithin lowest most text.now) }
+    ensures none { IsNone result → (n : ℕ) → IsWithin lowest most text.now n → ⊥ }
 {
     let number = read_digits(text, 1, 10)?;
-    if number < u64::from(least) || number > u64::from(most) {
+    if number < u64::from(lowest) || number > u64::from(most) {
         return None;
     }
     Some(number as u32)
@@ -124,10 +118,10 @@ fn made_of(seed: &str, width: &str, height: &str, frames: &str) -> Option<InputW
     ensures none { IsNone result → (input : InputWord) → IsMade seed.now width.now height.now frames.now input → ⊥ }
 {
     let seed = number_within(seed, 0, u32::MAX)?;
-    let width = number_within(width, 1, SIZE_MAX)?;
-    let height = number_within(height, 1, SIZE_MAX)?;
+    let width = number_within(width, 1, SIDE_MAX)?;
+    let height = number_within(height, 1, SIDE_MAX)?;
     let frames = number_within(frames, 0, FRAMES_MAX)?;
-    if picture_bytes(PixelFormat::Yuv420p, width, height) > BYTES_MAX {
+    if picture_bytes(PixelFormat::Yuv420p, width, height) > PICTURE_MAX {
         return None;
     }
     Some(InputWord::Made {

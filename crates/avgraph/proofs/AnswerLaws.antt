@@ -1,4 +1,4 @@
--- Words ask for one thing, and a file has one answer for it, or one of both has one fault.
+-- Words ask for one thing, and a file has one result for it, or one of both has one fault.
 use Rattle.std.proofs.Common.{◌≡◌, ℕ, List, sym, ◌∙◌, ap, subst, inl, inr}
 use Rattle.av_base.specs.declared.shapes.Shape.{Shape}
 use Rattle.av_frame.specs.Frames.{FrameValue}
@@ -13,7 +13,7 @@ use Rattle.avgraph.proofs.FileLemmas.{chain_one, answer_or_fault, one_file_fault
 use Rattle.y4m_io.proofs.LawLemmas.{one_reading}
 use Rattle.avgraph.proofs.RequestLemmas.{one_chain, says_or_refuses, one_refusal, same_words, no_words}
 
--- ---- answers
+-- ---- results
 
 same_text : (s t : Shape) (rs qs : List ReadyValue) (xs ys : List FrameValue) → s ≡ t → rs ≡ qs → xs ≡ ys → whole_text s (through rs xs) ≡ whole_text t (through qs ys)
 same_text s t rs qs xs ys a b c =

@@ -56,18 +56,18 @@ still_open {low} {s} {made} {p} {rest} {accepts} {closes} x takes laws h = not_t
     let both : made x ∷ [] ≡ [] = ap (λ (t : Stream). t.frames) (sym some ∙ (same ∙ none)) in
     absurd cc)
 
--- frames from behind x on rise behind x
-behind_rises : (x : FrameValue) (ys : List FrameValue) → Rises ys → StartsFrom (x.pts +ℤ pos 1) ys → RisesFrom x ys
-behind_rises x [] r h = tt
-behind_rises x (y ∷ ys) r h = (omega (arith, ints), r)
+-- frames that start after x rise after x
+after_rises : (x : FrameValue) (ys : List FrameValue) → Rises ys → StartsFrom (x.pts +ℤ pos 1) ys → RisesFrom x ys
+after_rises x [] r h = tt
+after_rises x (y ∷ ys) r h = (omega (arith, ints), r)
 
 one_rises : (ins : Streams) → Rises (ins 0).frames → AllRise 1 ins
 one_rises ins r i h = subst (λ (j : ℕ). Rises (ins j).frames) (let e : 0 ≡ i = omega arith in e) r
 
 coming_rises : (x : FrameValue) (ins : Streams) → Rises (ins 0).frames → StartsFrom (x.pts +ℤ pos 1) (ins 0).frames → AllRise 1 (coming 0 x ins)
-coming_rises x ins r h = one_rises (coming 0 x ins) (behind_rises x (ins 0).frames r h)
+coming_rises x ins r h = one_rises (coming 0 x ins) (after_rises x (ins 0).frames r h)
 
--- What an offer of x, and a call of `give` behind it that answered so, say of a filter: `offered` is what it was to give
+-- What an offer of x, and a call of `give` after it with this result, mean for a filter: `offered` is what it was to give
 -- in between, and `left` what it is to give then.
 pub record Answered (x : FrameValue) (p : Pads) (rest offered left : Streams → Streams) (answer : Result Given NoMemory) : Type 0 where
   pub offer : (ins : Streams) → AllRise p.inputs (coming 0 x ins) → (o : ℕ) → o < p.outputs → offered ins o ≡ rest (coming 0 x ins) o
@@ -82,7 +82,7 @@ answered_is {low} {made} {x} {p} takes h a ins r f =
     let coming_rise : AllRise p.inputs (coming 0 x ins) = rw input (coming_rises x ins r f) in
     let rise : AllRise p.inputs ins = rw input (one_rises ins r) in
     let output : 0 < p.outputs = rw takes.pads (omega arith) in
-    sym (a.give ins rise 0 output) ∙ (a.offer ins coming_rise 0 output ∙ takes.rest_is (coming 0 x ins) (behind_rises x (ins 0).frames r f) h)
+    sym (a.give ins rise 0 output) ∙ (a.offer ins coming_rise 0 output ∙ takes.rest_is (coming 0 x ins) (after_rises x (ins 0).frames r f) h)
 
 same_stream : (y z : FrameValue) (s t : Stream) → after (y ∷ []) s ≡ after (z ∷ []) t → s ≡ t
 same_stream y z s t e =
@@ -116,7 +116,7 @@ new_takes low r s out new = record {
 made_at : (r : ReadyValue) (x : FrameValue) → (made_by r x).pts ≡ x.pts
 made_at r x = (frame_filter_laws.making.keeps r.settings x).pts
 
--- one more filter stands behind a chain
+-- one more filter comes after a chain
 pub take_more : {V : Type 0} (pads : V → Pads) (rest : V → Streams → Streams) (accepts : V → ℕ → FrameValue → Type 0) (low : ℤ) (s mid u : Shape) (rs : List ReadyValue) (vs : List V) (r : ReadyValue) (v : V)
     → AllTake pads rest accepts low s rs vs mid → TakesFrom low mid (made_by r) (pads v) (rest v) (accepts v) → ((x : FrameValue) → x.shape ≡ mid → (made_by r x).shape ≡ u)
     → AllTake pads rest accepts low s (rs ++ r ∷ []) (vs ++ v ∷ []) u
@@ -126,7 +126,7 @@ take_more pads rest accepts low s mid u (q ∷ rs) (w ∷ vs) r v all takes shap
 take_more pads rest accepts low s mid u [] (w ∷ vs) r v all takes shaped = absurd all
 take_more pads rest accepts low s mid u (q ∷ rs) [] r v all takes shaped = absurd all
 
--- the first of those behind i
+-- the first of those after i
 drop_front : (rs left : List ReadyValue) (r : ReadyValue) (i : ℕ) → drop i rs ≡ r ∷ left → (take (i + 1) rs ≡ take i rs ++ r ∷ []) × (drop (i + 1) rs ≡ left)
 drop_front rs left r i e =
     let long : length (drop i rs) ≡ length (r ∷ left) = ap length e in
@@ -157,8 +157,8 @@ next_at : {V : Type 0} (pads : V → Pads) (rest : V → Streams → Streams) (a
     → AllTake pads rest accepts (first.pts +ℤ pos 1) first.shape (take i rs) (take i vs) mid → AllTake pads rest accepts low mid qs (v ∷ ws) t
     → current.shape ≡ mid → current.pts ≡ first.pts → passed qs current ≡ passed rs first
     → Next pads rest accepts low t rs vs i first current v
-next_at pads rest accepts low t mid rs vs i first current v [] ws less are front behind done left shape time same = absurd left
-next_at pads rest accepts low t mid rs vs i first current v (r ∷ qs) ws less are front behind done left shape time same =
+next_at pads rest accepts low t mid rs vs i first current v [] ws less are front later done left shape time same = absurd left
+next_at pads rest accepts low t mid rs vs i first current v (r ∷ qs) ws less are front later done left shape time same =
     let parts = drop_front rs qs r i are in
     record {
       ready = r;
@@ -166,7 +166,7 @@ next_at pads rest accepts low t mid rs vs i first current v (r ∷ qs) ws less a
       passes = λ w next takes is. record {
         mid = left.1.0;
         done = rw (parts.0, take-set_at vs i (i + 1) w refl less) (take_more pads rest accepts (first.pts +ℤ pos 1) first.shape mid left.1.0 (take i rs) (take i vs) r w done (rw (shape, time) at takes) left.1.1);
-        left = rw (parts.1, drop-set-lt (i + 1) vs i w (omega arith), behind) left.1.2;
+        left = rw (parts.1, drop-set-lt (i + 1) vs i w (omega arith), later) left.1.2;
         shape = rw is (left.1.1 current shape);
         time = rw is (made_at r current ∙ time);
         same_end = rw (parts.1, is) same;
@@ -254,7 +254,7 @@ chain_long pads rest accepts low s t [] (v ∷ vs) all = absurd all
 chain_long pads rest accepts low s t (r ∷ rs) [] all = absurd all
 chain_long pads rest accepts low s t (r ∷ rs) (v ∷ vs) all = ap suc (chain_long pads rest accepts low all.1.0 t rs vs all.1.2)
 
--- the filters that passed a frame stand in the places of those before it
+-- the filters that passed a frame are in the places of those before it
 pub written_back : {V : Type 0} (pads : V → Pads) (rest : V → Streams → Streams) (accepts : V → ℕ → FrameValue → Type 0) (low high : ℤ) (s t : Shape) (rs : List ReadyValue) (vs ws : List V) (n : ℕ) → n ≡ length vs
     → AllTake pads rest accepts low s rs vs t → AllTake pads rest accepts high s rs ws t → AllTake pads rest accepts high s rs (take n (ws ++ drop (length ws) vs)) t
 written_back {V} pads rest accepts low high s t rs vs ws n e old new =

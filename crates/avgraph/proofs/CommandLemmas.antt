@@ -80,7 +80,7 @@ LeavesAll-reads {a} {b} {c} o r = record {
   outputs = r.outputs ∙ o.outputs;
 }
 
--- the header was refused
+-- the header couldn't be read
 pub heading_refused : (limit : ℕ) (a b c : World) (name : List ℕ) (reader after : Reading) (error : HeadError) → Opens a b name reader.id → reader.room ≡ limit → Heads b c reader after (Err error)
     → OpensFile limit a c name (Err (stop_of_head error))
 heading_refused limit a b c name reader after head.BadHeader o e h =
@@ -110,7 +110,7 @@ module _ {limit : ℕ} {a b : World} {input : List ℕ} {reader : Reading} {shap
   opened : LeavesAll a b
   opened = LeavesAll-reads o.opens o.reads
 
-  -- where the input is told, it begins with the header line
+  -- if the input is known, it begins with the header line
   begins : (x : List ℕ) → a.held input ≡ Some x → x ≡ o.line ++ drop (length o.line) x
   begins x e = o.reads.inputs.begins x (o.opens.inputs.rest.here ∙ e)
 
@@ -155,7 +155,7 @@ module _ {limit : ℕ} {a b : World} {input : List ℕ} {reader : Reading} {shap
           ∙ (k.creates.outputs.contents other ne ∙ ap (λ (s : Outputs). s.content other) opened.outputs);
     }
 
-    -- what the loop put stands behind the header
+    -- what the loop put comes after the header
     leaves_moved : {d : World} {got put : List ℕ} → Moves c d reader.id id got put → Leaves a d output (text ++ put)
     leaves_moved m = record {
       held = m.held ∙ leaves_created.held;
@@ -166,11 +166,11 @@ module _ {limit : ℕ} {a b : World} {input : List ℕ} {reader : Reading} {shap
           m.outputs.contents other (λ e. ne (same_Some other output (sym e ∙ named))) ∙ leaves_created.other_outputs other ne;
     }
 
-    -- where the input is told, the rest behind its header is left when the loop begins
+    -- if the input is known, the rest after its header is left when the loop begins
     left_created : (x : List ℕ) → a.held input ≡ Some x → c.inputs.left reader.id ≡ Some (drop (length o.line) x)
     left_created x e = ap (λ (i : Inputs). i.left reader.id) inputs_stay ∙ left x e
 
-    -- a beginning of the header stands in the output
+    -- a beginning of the header is in the output
     begun_header : (calls : List FilterCall) (readies : List ReadyValue) (end : Shape) (count : ℕ) → AreReady calls shape readies end → text ≡ take count (header_text end) → Breaks calls a c input output
     begun_header calls readies end count ready e = record {
       put = text;
@@ -187,19 +187,19 @@ module _ {limit : ℕ} {a b : World} {input : List ℕ} {reader : Reading} {shap
       };
     }
 
-    -- frames that the loop read stand behind the header
+    -- frames that the loop read come after the header
     file_of : {d : World} {frames : List FrameValue} {put : List ℕ} (rest : List ℕ) → AreFramesFrom shape 0 frames → Moves c d reader.id id (frames_text frames ++ rest) put
         → (x : List ℕ) → a.held input ≡ Some x → BeginsFile x shape frames
     file_of {d} {frames} rest are m x held =
         let tail = drop (length o.line) x in
-        let behind = drop (length (frames_text frames ++ rest)) tail in
+        let later = drop (length (frames_text frames ++ rest)) tail in
         record {
           line = o.line;
-          rest = rest ++ behind;
+          rest = rest ++ later;
           header = o.header;
           are_frames = are;
           text = begins x held
-              ∙ ap (λ (z : List ℕ). o.line ++ z) (m.inputs.begins tail (left_created x held) ∙ append_assoc (frames_text frames) rest behind);
+              ∙ ap (λ (z : List ℕ). o.line ++ z) (m.inputs.begins tail (left_created x held) ∙ append_assoc (frames_text frames) rest later);
         }
 
     module _ (calls : List FilterCall) (readies : List ReadyValue) (end : Shape) (ready : AreReady calls shape readies end) (whole : text ≡ header_text end) where
@@ -241,9 +241,9 @@ module _ {limit : ℕ} {a b : World} {input : List ℕ} {reader : Reading} {shap
           let tail = drop (length o.line) x in
           let file = answers.file in
           let same = header_unique tail (frames_text answers.frames) o.header file.header (sym (begins x held) ∙ file.text) in
-          let behind : tail ≡ frames_text answers.frames = append_cancel_left o.line tail (frames_text answers.frames)
+          let later : tail ≡ frames_text answers.frames = append_cancel_left o.line tail (frames_text answers.frames)
           (sym (begins x held) ∙ (file.text ∙ ap (λ (z : List ℕ). z ++ frames_text answers.frames) (sym same.0))) in
-          none tail (left_created x held) answers.frames (subst (λ (s : Shape). AreFramesFrom s 0 answers.frames) (sym same.1) file.are_frames) behind
+          none tail (left_created x held) answers.frames (subst (λ (s : Shape). AreFramesFrom s 0 answers.frames) (sym same.1) file.are_frames) later
           (let within = answers.within in let n = ap length (begins x held) ∙ length-append o.line tail in let h = o.within in omega arith)
 
       no_file : ForSome (c.inputs.left reader.id) (IsNoFrames shape (limit - length o.line)) → StandsIn limit calls a input NotYet

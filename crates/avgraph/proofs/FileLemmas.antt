@@ -1,4 +1,4 @@
--- What a file and the filters' calls ask for is one answer or one fault.
+-- A file and the filters' calls have one result or one fault.
 use Rattle.std.proofs.Common.{◌≡◌, ◌+◌, ◌⊎◌, ℕ, List, [], ◌∷◌, Contains, zero, suc, Result, Ok, Err, refl, sym, ◌∙◌, ap, subst, arith, inl, inr}
 use Rattle.std.proofs.lemmas.List.{take_all}
 use Rattle.av_base.specs.declared.shapes.Shape.{Shape}
@@ -19,6 +19,7 @@ use Rattle.av_faults.specs.declared.fault.Fault.{Fault}
 use Rattle.av_faults.specs.declared.fault.Stop.{Stop}
 use Rattle.av_faults.specs.declared.fault.Stop.TheVariants as stop
 use Rattle.y4m_io.proofs.LineLemmas.{header_unique}
+use Rattle.avgraph.proofs.StopLemmas.{fault_is}
 
 -- ---- one filter
 
@@ -95,7 +96,7 @@ unready_one n (c ∷ cs) s a b (inr p) (inl q) = absurd (ready_or_fault c s p.0 
 unready_one n (c ∷ cs) s a b (inr p) (inr q) =
     unready_one (n + 1) cs q.1 a b (subst (λ (m : Shape). IsUnready (n + 1) cs m a) (outs_one (ready_one c s p.0 q.0 p.2 q.2) p.3 q.3) p.4) q.4
 
--- the first call or one behind it
+-- the first call or one after it
 pub contains_split : (c x : FilterCall) (cs : List FilterCall) → Contains (c ∷ cs) x → (c ≡ x) ⊎ Contains cs x
 contains_split c x cs (zero, within, is) = inl is
 contains_split c x cs (suc k, within, is) = inr (k, omega arith, is)
@@ -123,9 +124,6 @@ chain_takes (c ∷ cs) s t (r ∷ rs) p u = by_place (chain_takes cs p.1.0 t rs 
         })
 
 -- ---- shapes
-
-fault_is : {f g : Fault} → stop.Fault f ≡ stop.Fault g → f ≡ g
-fault_is e = cc
 
 pub chain_or_refused : (calls : List FilterCall) (s t : Shape) (rs : List ReadyValue) (f : Fault) → AreReady calls s rs t → RefusesShape calls s f → ⊥
 chain_or_refused calls s t rs f p (NoFormat u e) = chain_takes calls s t rs p u
@@ -157,7 +155,7 @@ answer_or_fault {limit} {calls} {bytes} {out} {f} a (BadShape s head refused) =
     chain_or_refused calls a.shape a.end a.readies f a.ready (subst (λ (x : Shape). RefusesShape calls x f) (head_one limit bytes s a.shape head (answers_head a)) refused)
 answer_or_fault {limit} {calls} {bytes} {out} a (Damaged s rs t head ready none e) = none out a
 
--- a shape that is refused, and a chain that is ready for the same file
+-- a shape that is rejected, and a chain that is ready for the same file
 refused_or_ready : (limit : ℕ) (calls : List FilterCall) (bytes : List ℕ) (s t u : Shape) (rs : List ReadyValue) (f : Fault) → HasHead limit bytes s → RefusesShape calls s f → HasHead limit bytes t → AreReady calls t rs u → ⊥
 refused_or_ready limit calls bytes s t u rs f head refused other ready =
     chain_or_refused calls t u rs f ready (subst (λ (x : Shape). RefusesShape calls x f) (head_one limit bytes s t head other) refused)

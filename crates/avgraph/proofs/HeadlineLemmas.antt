@@ -1,4 +1,4 @@
--- From the files and the printing to the answer.
+-- From the files and the printing to the result.
 use Rattle.std.proofs.Common.{◌≡◌, ◌≢◌, ◌⊎◌, ℕ, List, [], ◌++◌, take, length, Some, Result, Ok, Err, OnOk, OnErr, MatchResult, refl, ap, sym, ◌∙◌, subst, arith, inl, inr}
 use Rattle.std.specs.Option.{ForSome}
 use Rattle.std.proofs.Math.Seq.{take-length}
@@ -103,7 +103,7 @@ pub has_cause : (limit : ℕ) (words : List (List ℕ)) (outcome : Result (Unit 
     → HasCause old.faults new.faults status
 has_cause limit words outcome old mid new status h r = cause outcome old mid new status h.counts r
 
--- ---- the answer
+-- ---- the result
 
 says_line : (old mid new : World) (line : List ℕ) → mid.said ≡ old.said → mid.faults.sayings ≡ old.faults.sayings → Prints mid new line → SaysLine old new line
 says_line old mid new line e k p = record {
@@ -111,7 +111,7 @@ says_line old mid new line e k p = record {
   whole = λ small same x h. (p.whole (omega arith) (omega arith)).said x (e ∙ h);
 }
 
--- a refusal isn't status 0
+-- a fault isn't status 0
 some_status : (stops : Stop) → stop_status stops ≢ 0
 some_status (stop.Fault OpenFault) e = omega arith
 some_status (stop.Fault fault) e = omega arith
@@ -165,7 +165,7 @@ module _ (limit : ℕ) (calls : List FilterCall) (old mid new : World) (input ou
 
 -- ---- what is left as it was
 
--- where an answer was begun, the filters can be made ready for the file
+-- if a result was begun, the filters can be made ready for the file
 ready_of : (calls : List FilterCall) (bytes put : List ℕ) → IsBegun calls bytes put → IsReadyFor calls bytes
 ready_of calls bytes put b = (
   record { shape = b.shape; line = b.file.line; rest = frames_text b.frames ++ b.file.rest; header = b.file.header; text_is = b.file.text },
@@ -174,7 +174,7 @@ ready_of calls bytes put b = (
   b.ready,
 )
 
--- a whole answer is a beginning of itself
+-- a whole result is a beginning of itself
 begun_whole : (limit : ℕ) (calls : List FilterCall) (bytes out : List ℕ) → Answers limit calls bytes out → IsBegun calls bytes out
 begun_whole limit calls bytes out a = record {
   shape = a.shape;
@@ -210,7 +210,7 @@ kept_stops calls input output (inr b) = record {
   content = inr (λ y made x e. (b.put, b.begun x e, b.leaves.content y made));
 }
 
--- a refusal leaves no output, or a beginning of the answer
+-- a fault leaves no output, or a beginning of the result
 stops_of : (limit : ℕ) (calls : List FilterCall) {old mid : World} {input output : List ℕ} (stops : Stop) → Commands limit calls old mid input output (Err stops) → Stops calls old mid input output
 stops_of limit calls (stop.Fault OpenFault) k = k
 stops_of limit calls (stop.Fault ReadFault) k = k
@@ -244,7 +244,7 @@ kept limit calls outcome old mid new input output status k r =
       content = rw p.2 f.content;
     }
 
--- where the filters can't be made ready for the input, no output was created
+-- if the filters can't be made ready for the input, no output was created
 before_ready : (limit : ℕ) (calls : List FilterCall) (outcome : Result (Unit {0}) Stop) (old mid : World) (input output : List ℕ) → Commands limit calls old mid input output outcome
     → ForSome (old.held input) (λ bytes. ¬ IsReadyFor calls bytes → mid.outputs ≡ old.outputs)
 before_ready limit calls (Ok u) old mid input output k = λ x e none.
@@ -260,7 +260,7 @@ pub ready_first : (limit : ℕ) (calls : List FilterCall) (outcome : Result (Uni
 ready_first limit calls outcome old mid new input output status k r = λ x e none.
     (printed outcome mid new status r).2 ∙ before_ready limit calls outcome old mid input output k x e none
 
--- ---- what was said
+-- ---- what was printed
 
 said_stops : (calls : List FilterCall) {old mid : World} (input output : List ℕ) → Stops calls old mid input output → mid.said ≡ old.said
 said_stops calls input output (inl l) = l.said
@@ -288,7 +288,7 @@ said limit words (Ok u) old mid new status h r s = absurd (s r.0)
 said limit words (Err stops) old mid new status h r s =
     (stops, r.0, says_line old mid new (stop_line stops) h.said (sayings_before (Err stops) old.faults mid.faults h.counts) r.1)
 
--- ---- words and texts that are refused
+-- ---- words and texts that are rejected
 
 -- what was reported of an outcome before which nothing was done
 reported : (outcome stopped : Result (Unit {0}) Stop) (old mid new : World) (status : ℕ) → outcome ≡ stopped → mid ≡ old → Reports mid new outcome status → Reports old new stopped status

@@ -1,10 +1,10 @@
+mod StopLemmas
 mod ChainLemmas
 mod FileLemmas
 mod ReadyLemmas
 mod RunLemmas
 mod CommandLemmas
 mod HeadlineLemmas
-mod ArgCountLemmas
 mod RequestLemmas
 mod ObeyLemmas
 mod AnswerLaws

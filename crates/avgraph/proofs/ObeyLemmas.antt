@@ -45,7 +45,7 @@ obeys_none limit words old none = record {
   at_once f (inl h) = ap (λ (g : Fault). Err (stop.Fault g)) (sym h.1)
   at_once f (inr h) = absurd (no_words words none h.3)
 
--- ---- a text that is refused
+-- ---- a text that is rejected
 
 option_counts : (n : ℕ) (e : OptionError) (faults : Faults) → CountsStop {T = Unit {0}} (Err (option_stop n e)) faults faults
 option_counts n option.UnknownFilter faults = refl
@@ -71,7 +71,7 @@ refused_counts (TooLong long e) faults = rw e refl
 refused_counts (NoReading short at kind bad f place e) faults = rw e refl
 refused_counts (BadCalls short calls g h) faults = calls_counts h faults
 
--- the text of the words refuses a fault, and so it is the one that was found
+-- the text of the words has a fault, and so it is the one that was found
 module _ (words : List (List ℕ)) (input text output : List ℕ) (are : words_of words ≡ Some (input, text, output)) where
   same_refusal : (f g : Fault) → RefusesText text f → IsRefused words g → f ≡ g
   same_refusal f g h (inl k) = absurd (no_words words k.0 are)

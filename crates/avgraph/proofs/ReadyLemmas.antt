@@ -1,4 +1,4 @@
--- Filters made ready one behind the other.
+-- Filters made ready one after the other.
 use Rattle.std.proofs.Common.{◌≡◌, ◌<◌, ◌≤◌, ◌+◌, ◌⊎◌, ℕ, List, [], ◌∷◌, ◌++◌, Contains, ◌↔◌, Bool, true, false, IsTrue, Err, take, length, get_or, zero, suc, refl, sym, ◌∙◌, ap, subst, arith, inl, inr}
 use Rattle.std.specs.List.{AllZip, AllByRecursion}
 use Rattle.std.proofs.lemmas.List.{take_more}
@@ -8,8 +8,8 @@ use Rattle.av_base.specs.declared.shapes.Shape.{Shape}
 use Rattle.av_base.specs.declared.shapes.Props.{Props}
 use Rattle.av_base.specs.declared.shapes.Props.TheVariants as props
 use Rattle.av_host.specs.World.{Faults}
-use Rattle.av_frame.specs.Limits.{IsPictureShape, IsPictured}
-use Rattle.av_frame.specs.Meanings.{AreOfStream, IsOfStream}
+use Rattle.av_base.specs.Shapes.{IsPictureShape, IsPictured}
+use Rattle.av_filter.specs.Meanings.{AreOfStream, IsOfStream}
 use Rattle.av_frame.specs.declared.refusals.ConfigError.{ConfigError}
 use Rattle.av_frame.specs.declared.refusals.ConfigError.TheVariants as config
 use Rattle.graph_text.specs.declared.graph.FilterCall.{FilterCall}
@@ -30,11 +30,9 @@ use Rattle.av_faults.specs.declared.fault.Fault.TheVariants.{OpenFault, ReadFaul
 use Rattle.av_faults.specs.declared.fault.Stop.{Stop}
 use Rattle.av_faults.specs.declared.fault.Stop.TheVariants as stop
 use Rattle.avgraph.proofs.FileLemmas.{contains_split}
+use Rattle.avgraph.proofs.StopLemmas.{fault_is}
 
 -- ---- the faults of shapes
-
-fault_is : {f g : Fault} → stop.Fault f ≡ stop.Fault g → f ≡ g
-fault_is e = cc
 
 no_fault : {A : Type 0} (f : Fault) → stop.NoMemory ≡ stop.Fault f → A
 no_fault f e = absurd cc
@@ -61,7 +59,7 @@ no_host n low high (inl e) = omega arith
 no_host n low high (inr (inl e)) = omega arith
 no_host n low high (inr (inr e)) = omega arith
 
--- no count rises where the filters can't be made ready
+-- no count rises if the filters can't be made ready
 pub shape_counts : (T : Type 0) (calls : List FilterCall) (s : Shape) (stops : Stop) (faults : Faults) → StopsShape calls s stops → CountsStop {T = T} (Err stops) faults faults
 shape_counts T calls s (stop.Fault OpenFault) faults h = absurd (no_host 11 (omega arith) (omega arith) (shape_fault h))
 shape_counts T calls s (stop.Fault ReadFault) faults h = absurd (no_host 12 (omega arith) (omega arith) (shape_fault h))
@@ -139,7 +137,7 @@ chain_more calls kinds i kind s u w rs r within is zip p picture takes ready out
         let at = call_at cs xs j k (omega arith) e z.1 in
         (at.0, (let n = at.1 in omega arith), at.2, at.3)
 
--- the filter behind a chain can't be made ready
+-- the filter after a chain can't be made ready
 unready_from : (n : ℕ) (calls : List FilterCall) (kinds : List Kind) (i : ℕ) (kind : Kind) (s u : Shape) (rs : List ReadyValue) (e : ConfigError) → i < length kinds → kind ≡ get_or kinds i kind → AllZip IsKind calls kinds
     → AreReady (take i calls) s rs u → IsPictureShape u → Takes kind u.format → IsConfigFault kind u e → IsUnready n calls s (config_stop (n + i) e)
 unready_from n [] [] i kind s u rs e within is zip p picture takes h = absurd (omega arith)

@@ -1,4 +1,4 @@
--- Words ask for one thing at most, or are refused for one fault.
+-- Words ask for at most one thing, or have at most one fault.
 use Rattle.std.proofs.Common.{◌≡◌, ◌<◌, ◌≤◌, ◌+◌, ◌⊎◌, ℕ, List, [], ◌∷◌, Option, Some, None, Result, Ok, Err, IfOk, Vec, Global, length, get_or, take, ◌++◌, zero, suc, sym, ◌∙◌, ap, subst, arith, inl, inr}
 use Rattle.std.specs.List.{AllZip, AllByRecursion}
 use Rattle.std.proofs.lemmas.List.{take_more}
@@ -18,10 +18,11 @@ use Rattle.av_faults.specs.declared.fault.Stop.TheVariants as stop
 use Rattle.avgraph.specs.Stops.{option_stop}
 use Rattle.avgraph.specs.FirstForm.{words_of}
 use Rattle.avgraph.specs.Requests.{IsBare, SaysFilters, IsRefusedCall, RefusesCalls, TooMany, BadCall, NoChain, RefusesText, TooLong, NoReading, BadCalls, StopsCalls, StopsText}
+use Rattle.avgraph.proofs.StopLemmas.{fault_is}
 
 -- ---- calls
 
--- calls that all mean filters aren't refused
+-- calls that all mean filters aren't rejected
 kinds_or_refused : (n : ℕ) (calls : List FilterCall) (kinds : List Kind) (stops : Stop) → AllZip IsKind calls kinds → IsRefusedCall n calls stops → ⊥
 kinds_or_refused n [] kinds stops zip h = h
 kinds_or_refused n (c ∷ cs) [] stops zip h = zip
@@ -34,9 +35,6 @@ one_refused_call n (c ∷ cs) s t (inl p) (inl q) = p.2 ∙ (ap (option_stop n) 
 one_refused_call n (c ∷ cs) s t (inl p) (inr q) = absurd (one_meaning.not_both c q.0 p.0 q.1 p.1)
 one_refused_call n (c ∷ cs) s t (inr p) (inl q) = absurd (one_meaning.not_both c p.0 q.0 p.1 q.1)
 one_refused_call n (c ∷ cs) s t (inr p) (inr q) = one_refused_call (n + 1) cs s t p.2 q.2
-
-fault_is : {f g : Fault} → stop.Fault f ≡ stop.Fault g → f ≡ g
-fault_is e = cc
 
 one_refusal_of_calls : {calls : List FilterCall} {f g : Fault} → RefusesCalls calls f → RefusesCalls calls g → f ≡ g
 one_refusal_of_calls (TooMany many e) (TooMany more d) = e ∙ sym d
@@ -111,7 +109,7 @@ kinds_more calls kinds i call kind within is zip h =
     let e : take (i + 1) calls ≡ take i calls ++ call ∷ [] = take_more calls i call within ∙ ap (λ (c : FilterCall). take i calls ++ c ∷ []) (sym is) in
     rw e (kinds_push (take i calls) kinds call kind zip h)
 
--- a call is refused, and none before it
+-- a call is rejected, and none before it
 refused_from : (n : ℕ) (calls : List FilterCall) (kinds : List Kind) (i : ℕ) (call : FilterCall) (e : OptionError) → i < length calls → call ≡ get_or calls i call → AllZip IsKind (take i calls) kinds → IsKindFault call e
     → IsRefusedCall n calls (option_stop (n + i) e)
 refused_from n [] kinds i call e within is zip h = absurd (omega arith)
@@ -138,7 +136,7 @@ pub calls_stop : (text : List ℕ) (calls : List FilterCall) (stops : Stop) → 
 calls_stop text calls (stop.Fault f) short graph h = BadCalls short calls graph h
 calls_stop text calls stop.NoMemory short graph h = short
 
--- the kinds of a text's calls say what it asks for
+-- the kinds of a text's calls are what it asks for
 pub says_kinds : (text : List ℕ) (calls items : List FilterCall) (result : Result (Vec Kind Global) Stop) → length text ≤ 65_536 → IsGraph text calls → length calls ≤ 256 → items ≡ calls
     → IfOk result (λ kinds. AllZip IsKind items kinds.items × AllByRecursion IsBare items) → IfOk result (λ kinds. (cs : List FilterCall) × SaysFilters text cs × AllZip IsKind cs kinds.items)
 says_kinds text calls items (Ok kinds) short graph few same h =

@@ -22,7 +22,7 @@ use Rattle.node_core.specs.Shaping.{ReadyValue}
 use Rattle.av_faults.specs.declared.fault.Fault.TheVariants.{NotYet}
 use Rattle.av_faults.specs.declared.fault.Stop.TheVariants as stop
 use Rattle.avgraph.proofs.ChainLemmas.{through-nil, through-push}
-use Rattle.y4m_io.proofs.FrameListLemmas.{frames_text-push, AreFramesFrom-push, frames_behind, IsStuck, stuck_bad, stuck_truncated, stuck_past}
+use Rattle.y4m_io.proofs.FrameListLemmas.{frames_text-push, AreFramesFrom-push, frames_after, IsStuck, stuck_bad, stuck_truncated, stuck_past}
 
 -- ---- texts of frames
 
@@ -67,17 +67,17 @@ SoFar-none shape readies total w input output = record {
   moves = subst (λ (z : List ℕ). Moves w w input output [] z) (sym (ap frames_text (through-nil readies))) (Moves-nil w input output);
 }
 
--- a frame was refused
+-- a frame couldn't be read
 pub SoFar-whole : {shape : Shape} {readies : List ReadyValue} {total : ℕ} {a b c : World} {input output room frames : ℕ} → SoFar shape readies total a b input output room frames → ReadsSome b c input → MovesWhole shape readies a c input output
 SoFar-whole s r = record { frames = s.got; rest = r.0; are_frames = s.are_frames; moves = Moves-reads s.moves r.1 }
 
--- what was left where the loop began isn't the text of frames either
+-- what was left when the loop began isn't the text of frames either
 pub SoFar-stuck : {shape : Shape} {readies : List ReadyValue} {total : ℕ} {a b : World} {input output room frames : ℕ} → SoFar shape readies total a b input output room frames → ForSome (b.inputs.left input) (IsStuck shape room) → ForSome (a.inputs.left input) (IsNoFrames shape total)
 SoFar-stuck {shape} {readies} {total} {a} {b} {input} {output} {room} {frames} s stuck = λ x e others are text within.
     let rest = drop (length (frames_text s.got)) x in
     let begins = s.moves.inputs.begins x e in
-    let behind = frames_behind shape 0 s.got others rest s.are_frames are (sym text ∙ begins) in
-    stuck rest (s.moves.inputs.left x e) (0 + length s.got) behind.0 behind.1 behind.2
+    let others = frames_after shape 0 s.got others rest s.are_frames are (sym text ∙ begins) in
+    stuck rest (s.moves.inputs.left x e) (0 + length s.got) others.0 others.1 others.2
     (let size = s.size in let n = ap length begins ∙ length-append (frames_text s.got) rest in omega arith)
 
 -- the run was stopped after whole frames were written
@@ -164,7 +164,7 @@ module _ (shape : Shape) (readies : List ReadyValue) {a b : World} (reader first
   part_run : {c : World} → reader.id ≡ first.id → ReadsSome b c reader.id → MovesPart shape readies a c first.id writer.id
   part_run {c} same r = subst (λ (id : ℕ). MovesPart shape readies a c id writer.id) same (SoFar-part s r)
 
-  -- the next frame was refused
+  -- the next frame couldn't be read
   pub next_refused : (c : World) (after : Reading) (error : NextError) → reader.id ≡ first.id → Gives shape b c reader after (Err error) → Runs shape readies a c first writer (Err (stop_of_next error))
   next_refused c after (next.BadFrame k) same g = stuck_run same g.1.reads (λ x e. stuck_bad shape reader.room x (g.1.cause x e))
   next_refused c after (next.Truncated k) same g = stuck_run same g.1.reads (λ x e. stuck_truncated shape reader.room x (g.1.cause x e))
@@ -172,7 +172,7 @@ module _ (shape : Shape) (readies : List ReadyValue) {a b : World} (reader first
   next_refused c after next.Host same g = part_run same g.reads
   next_refused c after next.NoMemory same g = part_run same ([], subst (λ (w : World). Reads b w reader.id []) (sym g.0) (Reads-nil b reader.id))
 
-  -- there was no memory for the frame behind a filter
+  -- there was no memory for the frame after a filter
   pub pass_refused : {c : World} {after : Reading} {f : FrameValue} → reader.id ≡ first.id → GivesFrame shape b c reader after f → MovesPart shape readies a c first.id writer.id
   pass_refused {c} same g = subst (λ (id : ℕ). MovesPart shape readies a c id writer.id) same (SoFar-read s g)
 

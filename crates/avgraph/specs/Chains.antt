@@ -3,7 +3,7 @@ use Rattle.std.specs.Prelude.{◌≡◌, ℕ, ℤ, Bool, ◌≤ℤ◌, List, [],
 use Rattle.av_base.specs.declared.shapes.Shape.{Shape}
 use Rattle.av_frame.specs.Frames.{FrameValue}
 use Rattle.av_frame.specs.FilterLaws.{Pads, one_to}
-use Rattle.av_frame.specs.Limits.{IsPictureShape}
+use Rattle.av_base.specs.Shapes.{IsPictureShape}
 use Rattle.av_frame.specs.Rules.{each_stream}
 use Rattle.av_frame.specs.Streams.{Streams, Rises}
 use Rattle.graph_text.specs.declared.graph.FilterCall.{FilterCall}
@@ -20,7 +20,7 @@ pub record IsReadied (call : FilterCall) (s : Shape) (ready : ReadyValue) : Type
   pub takes : Takes kind s.format
   pub is_ready : IsReady kind s ready
 
--- the calls' filters are ready one behind the other, the first for pictures of shape s, and the last gives shape t
+-- the calls' filters are ready one after the other, the first for pictures of shape s, and the last gives shape t
 abbrev pub AreReady : List FilterCall → Shape → List ReadyValue → Shape → Type 0
 AreReady [] s [] t = t ≡ s
 AreReady (call ∷ calls) s (ready ∷ readies) t = IsReadied call s ready × ((u : Shape) × (ready.outs ≡ u ∷ []) × AreReady calls u readies t)
@@ -37,7 +37,7 @@ passed [] frame = frame
 passed (ready ∷ readies) frame = passed readies (made_by ready frame)
 
 -- what contracts see of a chain that runs: its filters, the shapes of the frames that it is offered and that it gives,
--- the least time that the next frame may have, and whether a frame was refused, behind which no other may come
+-- the lowest time that the next frame may have, and whether a frame was rejected, after which no other may come
 pub record ChainValue : Type 0 where
   pub readies : List ReadyValue
   pub shape : Shape

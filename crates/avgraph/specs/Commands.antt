@@ -47,7 +47,7 @@ pub record LeavesAll (old new : World) : Type 0 where
   pub said : new.said ≡ old.said
   pub outputs : new.outputs ≡ old.outputs
 
--- The output holds these bytes, where it is told, and what else the host holds by name is as before.
+-- The output holds these bytes, if its content is known, and what else the host holds by name is as before.
 pub record Leaves (old new : World) (output : List ℕ) (bytes : List ℕ) : Type 0 where
   pub held : new.held ≡ old.held
   pub inputs : KeepsInputs old.inputs new.inputs
@@ -103,12 +103,12 @@ pub record IsChainFor (calls : List FilterCall) (shape : Shape) (chain : ChainVa
   pub next : chain.next ≡ pos 0
   pub fresh : chain.spent ≡ false
 
--- what stops the making ready: what stands against it, or want of memory
+-- what stops the making ready: its fault, or out of memory
 abbrev pub StopsShape : List FilterCall → Shape → Stop → Type 0
 StopsShape calls shape (stop.Fault fault) = RefusesShape calls shape fault
 StopsShape calls shape stop.NoMemory = Unit {0}
 
--- the fault is one of files, and stands in the input
+-- the fault is one of files, and the input has it
 pub record StandsIn (limit : ℕ) (calls : List FilterCall) (old : World) (input : List ℕ) (fault : Fault) : Type 0 where
   pub of_file : IsOfFile fault
   pub stands : ForSome (old.held input) (λ bytes. IsFileFault limit calls bytes fault)
@@ -135,7 +135,7 @@ pub record IsReadToEnd (old new : World) : Type 0 where
   pub is_open : new.inputs.is_open id ≡ true
   pub left : new.inputs.left id ≡ Some []
 
--- The whole answer was written, and the input read to its end.
+-- The whole result was written, and the input read to its end.
 pub record Finishes (limit : ℕ) (calls : List FilterCall) (old new : World) (input output : List ℕ) : Type 0 where
   pub bytes : List ℕ
   pub out : List ℕ
@@ -155,7 +155,7 @@ pub record IsBegun (calls : List FilterCall) (bytes put : List ℕ) : Type 0 whe
   pub ready : AreReady calls shape readies end
   pub put_is : put ≡ take count (open_text end (through readies frames))
 
--- The output was created, and holds a beginning of the answer.
+-- The output was created, and holds a beginning of the result.
 pub record Breaks (calls : List FilterCall) (old new : World) (input output : List ℕ) : Type 0 where
   pub put : List ℕ
   pub leaves : Leaves old new output put

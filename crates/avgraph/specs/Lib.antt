@@ -1,3 +1,4 @@
+pub mod Bounds
 pub mod FirstForm
 pub mod Stops
 pub mod Requests

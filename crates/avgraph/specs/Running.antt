@@ -65,7 +65,7 @@ Runs shape readies old new reader writer (Err (stop.Fault WriteFault)) = MovesPa
 Runs shape readies old new reader writer (Err stop.NoMemory) = MovesPart shape readies old new reader.id writer.id
 Runs shape readies old new reader writer (Err other) = ⊥
 
--- what a refused frame stops the command with
+-- what stops the command if a frame can't be read
 abbrev pub stop_of_next : NextError → Stop
 stop_of_next (next.BadFrame k) = stop.Fault NotYet
 stop_of_next (next.Truncated k) = stop.Fault NotYet
@@ -73,7 +73,7 @@ stop_of_next next.TooLong = stop.Fault NotYet
 stop_of_next next.Host = stop.Fault ReadFault
 stop_of_next next.NoMemory = stop.NoMemory
 
--- what a refused text stops the command with
+-- what stops the command if a text can't be written
 abbrev pub stop_of_write : WriteError → Stop
 stop_of_write write.Host = stop.Fault WriteFault
 stop_of_write write.NoMemory = stop.NoMemory

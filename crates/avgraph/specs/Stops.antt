@@ -1,4 +1,4 @@
--- What stops a run, by what refused it, and how the counts of the host's faults rise with it.
+-- What stops a run, by the call that failed, and how the counts of the host's faults rise with it.
 use Rattle.std.specs.Prelude.{◌≡◌, ℕ, Result, Err}
 use Rattle.av_host.specs.World.{Faults}
 use Rattle.av_host.specs.Calls.{RaisesOpenings, RaisesReads, RaisesWrites}
@@ -10,7 +10,7 @@ use Rattle.av_faults.specs.declared.fault.Fault.TheVariants.{NotYet, UnknownFilt
 use Rattle.av_faults.specs.declared.fault.Stop.{Stop}
 use Rattle.av_faults.specs.declared.fault.Stop.TheVariants as stop
 
--- what stops the command where a filter's arguments are refused
+-- what stops the command if a filter's arguments are rejected
 abbrev pub option_stop : ℕ → OptionError → Stop
 option_stop filter option.UnknownFilter = stop.Fault (UnknownFilter filter)
 option_stop filter (option.UnknownOption k) = stop.Fault (UnknownOption filter k)
@@ -20,7 +20,7 @@ option_stop filter option.MissingOption = stop.Fault (MissingOption filter)
 option_stop filter option.NotYet = stop.Fault NotYet
 option_stop filter option.NoMemory = stop.NoMemory
 
--- what stops it where a filter can't be made ready
+-- what stops it if a filter can't be made ready
 abbrev pub config_stop : ℕ → ConfigError → Stop
 config_stop filter (config.SizeMismatch a b) = stop.Fault (SizeMismatch filter a b)
 config_stop filter (config.BadGeometry found allowed) = stop.Fault (BadGeometry filter found allowed)

@@ -1,4 +1,4 @@
-//! Filters one behind another, and the way of a frame through them.
+//! Filters one after another, and the way of a frame through them.
 ghost use Rattle.std.specs.Prelude.{◌≡◌, ℤ, pos, ◌+ℤ◌, ◌≤ℤ◌, List, false, IfOk, OnOk};
 ghost use Rattle.av_base.specs.declared.shapes.Shape.{Shape};
 ghost use Rattle.av_frame.specs.Frames.{FrameValue};
@@ -16,7 +16,7 @@ use std::thread::Threads;
 /// Makes the filters of a chain, which then take frames from time 0 on.
 ///
 /// # Errors
-/// Want of memory.
+/// Out of memory.
 fn start_all(alloc: Global, readies: &[Ready]) -> Result<Vec<Instance>, NoMemory>
     ensures { (s t : Shape) → AreLinked s readies.now t
         → IfOk result (λ v. AllTake ⟦<Instance as Filter>⟧.pads ⟦<Instance as Filter>⟧.rest ⟦<Instance as Filter>⟧.accepts (pos 0) s readies.now v.items t) }
@@ -31,7 +31,7 @@ fn start_all(alloc: Global, readies: &[Ready]) -> Result<Vec<Instance>, NoMemory
 /// The frame that a filter makes of one.
 ///
 /// # Errors
-/// Want of memory. The frame is released then.
+/// Out of memory. The frame is released then.
 fn step<F: Filter, R: Threads + Sync>(
     rt: &R,
     alloc: Global,
@@ -58,7 +58,7 @@ fn step<F: Filter, R: Threads + Sync>(
 /// then take later frames.
 ///
 /// # Errors
-/// Want of memory. The frame is released then.
+/// Out of memory. The frame is released then.
 fn pass<F: Filter, R: Threads + Sync>(
     rt: &R,
     alloc: Global,
@@ -80,16 +80,16 @@ fn pass<F: Filter, R: Threads + Sync>(
     Ok(current)
 }
 
-/// Filters one behind another that run: each is offered what the one before it gives.
+/// Filters one after another that run: each is offered what the one before it gives.
 #[derive(Drop)]
 pub(crate) struct Chain {
     readies: Vec<Ready>,
     instances: Vec<Instance>,
     shape: Shape,
     end: Shape,
-    /// The least time that the next frame may have.
+    /// The lowest time that the next frame may have.
     next: i64,
-    /// Whether a frame was refused.
+    /// Whether a frame was rejected.
     spent: bool,
 }
 
@@ -108,7 +108,7 @@ impl Chain {
     /// The chain of filters that are ready, for frames of a shape; the last one gives frames of `end`.
     ///
     /// # Errors
-    /// Want of memory.
+    /// Out of memory.
     pub(crate) fn new(
         alloc: Global,
         readies: Vec<Ready>,
@@ -139,7 +139,7 @@ impl Chain {
     /// The frame at the end of the chain for one at its beginning.
     ///
     /// # Errors
-    /// Want of memory. The chain is spent then.
+    /// Out of memory. The chain is spent then.
     pub(crate) fn pass<R: Threads + Sync>(
         &mut self,
         rt: &R,
@@ -153,7 +153,7 @@ impl Chain {
         ensures shape { IfOk result (λ f. f.shape ≡ self.old.end) }
         ensures after { OnOk result (self.new ≡ record self.old { next = frame.pts +ℤ pos 1 }) }
     {
-        // Any frame is lawful, and so its time is within 2^62, as this call says.
+        // Any frame is lawful, and so its time is within 2^62, by the clause of this call.
         let _shape = frame.shape();
         let pts = frame.pts();
         self.spent = true;

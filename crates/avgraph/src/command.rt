@@ -6,7 +6,8 @@ ghost use Rattle.node_core.specs.Kinds.{IsKind};
 ghost use Rattle.y4m_io.specs.HeaderTexts.{IsWritable};
 ghost use Rattle.avgraph.specs.Commands.{Commands, Prepares, OpensFile, CreatesFile, stop_of_opening, stop_of_head};
 ghost use Rattle.avgraph.specs.Stops.{CountsStop};
-ghost use Rattle.avgraph.specs.declared.TheConstants.{LIMIT};
+ghost use Rattle.avgraph.specs.Bounds.{greatest_input};
+ghost use Rattle.avgraph.specs.Bounds.{most_filters};
 
 use crate::LIMIT;
 use crate::chain::Chain;
@@ -22,7 +23,7 @@ use std::thread::Threads;
 use y4m_io::reader::Reader;
 use y4m_io::writer::Writer;
 
-/// What a refused opening or creation stops the command with.
+/// What stops the command if a file can't be opened or created.
 fn stopped_opening(error: HostError) -> Stop
     ensures { result ≡ stop_of_opening error }
 {
@@ -32,7 +33,7 @@ fn stopped_opening(error: HostError) -> Stop
     }
 }
 
-/// What a refused header stops the command with.
+/// What stops the command if the header can't be read.
 fn stopped_heading(error: HeadError) -> Stop
     ensures { result ≡ stop_of_head error }
 {
@@ -45,7 +46,7 @@ fn stopped_heading(error: HeadError) -> Stop
 
 /// Opens the input and reads its header.
 fn open<H: Host>(alloc: Global, host: &mut H, name: &str) -> Result<(Reader, Shape), Stop>
-    ensures opens { OpensFile LIMIT (H.world host.old) (H.world host.new) name.now result }
+    ensures opens { OpensFile greatest_input (H.world host.old) (H.world host.new) name.now result }
     ensures faults { CountsStop result (H.world host.old).faults (H.world host.new).faults }
 {
     let id = match host.open_input(name) {
@@ -89,9 +90,9 @@ fn prepare<H: Host>(
     kinds: &[Kind],
     name: &str,
 ) -> Result<(Reader, Chain), Stop>
-    requires few { length kinds.now ≤ 256 }
+    requires few { length kinds.now ≤ most_filters }
     requires named { (calls : List FilterCall) × AllZip IsKind calls kinds.now }
-    ensures prepares { (calls : List FilterCall) → AllZip IsKind calls kinds.now → Prepares LIMIT calls (H.world host.old) (H.world host.new) name.now result }
+    ensures prepares { (calls : List FilterCall) → AllZip IsKind calls kinds.now → Prepares greatest_input calls (H.world host.old) (H.world host.new) name.now result }
     ensures faults { CountsStop result (H.world host.old).faults (H.world host.new).faults }
 {
     let (reader, shape) = match open(alloc, host, name) {
@@ -113,9 +114,9 @@ pub(crate) fn run_command<R: Threads + Sync, H: Host>(
     input: &str,
     output: &str,
 ) -> Result<(), Stop>
-    requires few { length kinds.now ≤ 256 }
+    requires few { length kinds.now ≤ most_filters }
     requires named { (calls : List FilterCall) × AllZip IsKind calls kinds.now }
-    ensures commands { (calls : List FilterCall) → AllZip IsKind calls kinds.now → Commands LIMIT calls (H.world host.old) (H.world host.new) input.now output.now result }
+    ensures commands { (calls : List FilterCall) → AllZip IsKind calls kinds.now → Commands greatest_input calls (H.world host.old) (H.world host.new) input.now output.now result }
     ensures faults { CountsStop result (H.world host.old).faults (H.world host.new).faults }
 {
     let mut pools = match Pools::new(alloc) {

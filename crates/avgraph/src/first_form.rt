@@ -30,7 +30,7 @@ fn is_command(flag: &str, input: &str, graph: &str, output: &str) -> bool
         && input != output
 }
 
-/// The name of the input, the graph text and the name of the output, where the words are of the form that is read today.
+/// The name of the input, the graph text and the name of the output, if the words are of the form that is read today.
 pub(crate) fn read_first_form(words: &[String]) -> Option<(&str, &str, &str)>
     ensures { option_map (λ p. (p.0.now, p.1.now, p.2.now)) result ≡ words_of (map string_bytes words.now) }
 {

@@ -20,5 +20,5 @@ mod tests;
 #[cfg(test)]
 mod text_tests;
 
-/// The greatest number of bytes of an input.
+/// The greatest number of bytes of an input (`greatest_input`).
 pub const LIMIT: u64 = 1 << 40;

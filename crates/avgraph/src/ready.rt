@@ -1,7 +1,7 @@
 //! The filters of a chain, made ready for the pictures of an input.
 ghost use Rattle.std.specs.Prelude.{◌≡◌, ◌⊎◌, ◌≤◌, List, [], ◌∷◌, false, length, IsTrue, IfOk, IfErr};
 ghost use Rattle.std.specs.List.{AllZip, AllByRecursion};
-ghost use Rattle.av_frame.specs.Limits.{IsPictureShape};
+ghost use Rattle.av_base.specs.Shapes.{IsPictureShape};
 ghost use Rattle.av_frame.specs.declared.refusals.ConfigError.TheVariants as config;
 ghost use Rattle.graph_text.specs.declared.graph.FilterCall.{FilterCall};
 ghost use Rattle.node_core.specs.Kinds.{IsKind};
@@ -10,6 +10,7 @@ ghost use Rattle.avgraph.specs.Chains.{AreReady};
 ghost use Rattle.avgraph.specs.Answers.{IsUnready, IsUntaken};
 ghost use Rattle.avgraph.specs.Commands.{IsChainFor, StopsShape};
 ghost use Rattle.avgraph.specs.Stops.{config_stop};
+ghost use Rattle.avgraph.specs.Bounds.{most_filters};
 
 use crate::chain::Chain;
 use av_base::{Format, List, NoMemory, Shape};
@@ -18,7 +19,7 @@ use av_frame::ConfigError;
 use node_core::{Kind, Ready};
 use std::alloc::Global;
 
-/// What stops the command where a filter can't be made ready.
+/// What stops the command if a filter can't be made ready.
 fn stopped_config(filter: u32, error: ConfigError) -> Stop
     ensures { result ≡ config_stop filter error }
 {
@@ -72,10 +73,10 @@ struct Readied {
     end: Shape,
 }
 
-/// Makes the filters ready one behind the other, the first for pictures of a shape.
+/// Makes the filters ready one after the other, the first for pictures of a shape.
 fn make_all_ready(alloc: Global, kinds: &[Kind], shape: Shape) -> Result<Readied, Stop>
     requires picture { IsPictureShape shape }
-    requires few { length kinds.now ≤ 256 }
+    requires few { length kinds.now ≤ most_filters }
     requires taking { AllByRecursion (λ kind. Takes kind shape.format) kinds.now }
     ensures ready { (calls : List FilterCall) → AllZip IsKind calls kinds.now → IfOk result (λ r. AreReady calls shape r.readies.items r.end) }
     ensures stop { (calls : List FilterCall) → AllZip IsKind calls kinds.now → IfErr result (λ stop. (stop ≡ Stop.NoMemory) ⊎ IsUnready 0 calls shape stop) }
@@ -99,11 +100,11 @@ fn make_all_ready(alloc: Global, kinds: &[Kind], shape: Shape) -> Result<Readied
 /// The chain of filters, ready for pictures of a shape.
 ///
 /// # Errors
-/// `NoCommonFormat` where a filter doesn't take pictures of the shape's format; else what stands against the first filter
-/// that can't be made ready. Want of memory.
+/// `NoCommonFormat` if a filter doesn't take pictures of the shape's format; else the fault of the first filter
+/// that can't be made ready. Out of memory.
 pub(crate) fn ready_chain(alloc: Global, kinds: &[Kind], shape: Shape) -> Result<Chain, Stop>
     requires picture { IsPictureShape shape }
-    requires few { length kinds.now ≤ 256 }
+    requires few { length kinds.now ≤ most_filters }
     requires named { (calls : List FilterCall) × AllZip IsKind calls kinds.now }
     ensures ready { (calls : List FilterCall) → AllZip IsKind calls kinds.now → IfOk result (IsChainFor calls shape) }
     ensures stop { (calls : List FilterCall) → AllZip IsKind calls kinds.now → IfErr result (StopsShape calls shape) }

@@ -5,6 +5,7 @@ ghost use Rattle.graph_text.specs.declared.graph.FilterCall.{FilterCall};
 ghost use Rattle.node_core.specs.Kinds.{IsKind};
 ghost use Rattle.avgraph.specs.Stops.{option_stop};
 ghost use Rattle.avgraph.specs.Requests.{IsBare, SaysFilters, IsRefusedCall, StopsCalls, StopsText};
+ghost use Rattle.avgraph.specs.Bounds.{most_filters};
 
 use av_faults::{Fault, LimitKind, Stop};
 use av_frame::OptionError;
@@ -13,13 +14,13 @@ use graph_text::{FilterCall, parse};
 use node_core::Kind;
 use std::alloc::Global;
 
-/// The greatest number of bytes of a graph text.
+/// The greatest number of bytes of a graph text (`greatest_text`).
 const TEXT_MAX: usize = 65_536;
 
-/// The greatest number of filters of a graph.
+/// The greatest number of filters of a graph (`most_filters`).
 const FILTERS_MAX: usize = 256;
 
-/// What stops the command where the arguments of a filter are refused.
+/// What stops the command if the arguments of a filter are rejected.
 fn stopped_option(filter: u32, error: OptionError) -> Stop
     ensures { result ≡ option_stop filter error }
 {
@@ -36,7 +37,7 @@ fn stopped_option(filter: u32, error: OptionError) -> Stop
 
 /// The filters that calls name, with the options that their arguments give them.
 fn kinds_of(alloc: Global, calls: &[FilterCall]) -> Result<Vec<Kind>, Stop>
-    requires few { length calls.now ≤ 256 }
+    requires few { length calls.now ≤ most_filters }
     requires args { AllByRecursion (λ call. length call.args < 2 ^ 32) calls.now }
     ensures kinds { IfOk result (λ kinds. AllZip IsKind calls.now kinds.items) }
     ensures stop { IfErr result (λ stop. (stop ≡ Stop.NoMemory) ⊎ IsRefusedCall 0 calls.now stop) }
@@ -71,9 +72,9 @@ fn is_chain(calls: &[FilterCall]) -> bool
     true
 }
 
-/// The filters that calls name, where they can run today.
+/// The filters that calls name, if they can run today.
 fn chain_of(alloc: Global, calls: &[FilterCall]) -> Result<Vec<Kind>, Stop>
-    requires few { length calls.now ≤ 256 }
+    requires few { length calls.now ≤ most_filters }
     requires args { AllByRecursion (λ call. length call.args < 2 ^ 32) calls.now }
     ensures kinds { IfOk result (λ kinds. AllZip IsKind calls.now kinds.items × AllByRecursion IsBare calls.now) }
     ensures stop { IfErr result (StopsCalls calls.now) }
@@ -89,8 +90,8 @@ fn chain_of(alloc: Global, calls: &[FilterCall]) -> Result<Vec<Kind>, Stop>
 /// The filters that a graph text asks for.
 ///
 /// # Errors
-/// The limit of bytes; else the fault of the text; else the limit of filters; else what the first filter is refused for
-/// that is refused; else `NotYet` where the calls aren't one chain without labels. Want of memory.
+/// The limit of bytes; else the fault of the text; else the limit of filters; else the fault of the first filter that is
+/// rejected; else `NotYet` if the calls aren't one chain without labels. Or out of memory.
 pub(crate) fn read_filters(alloc: Global, text: &str) -> Result<Vec<Kind>, Stop>
     ensures filters { IfOk result (λ kinds. (calls : List FilterCall) × SaysFilters text.now calls × AllZip IsKind calls kinds.items) }
     ensures stop { IfErr result (StopsText text.now) }
@@ -115,7 +116,7 @@ pub(crate) fn read_filters(alloc: Global, text: &str) -> Result<Vec<Kind>, Stop>
     chain_of(alloc, calls)
 }
 
-/// The refusal of a quantity that passes its limit.
+/// The fault of a quantity that passes its limit.
 fn limit(kind: LimitKind, allowed: usize) -> Stop
     ensures { result ≡ Stop.Fault (Fault.Limit kind 0 allowed) }
 {

@@ -15,7 +15,7 @@ use std::thread::Threads;
 use y4m_io::reader::Reader;
 use y4m_io::writer::Writer;
 
-/// What a refused frame stops the command with.
+/// What stops the command if a frame can't be read.
 pub(crate) fn stopped_reading(error: NextError) -> Stop
     ensures { result ≡ stop_of_next error }
 {
@@ -28,7 +28,7 @@ pub(crate) fn stopped_reading(error: NextError) -> Stop
     }
 }
 
-/// What a refused text stops the command with.
+/// What stops the command if a text can't be written.
 pub(crate) fn stopped_writing(error: WriteError) -> Stop
     ensures { result ≡ stop_of_write error }
 {

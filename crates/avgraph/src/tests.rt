@@ -137,7 +137,7 @@ fn other_words_ask_the_host_for_nothing_but_a_saying(rt: HostRuntime) -> Result<
     ] {
         let words = words(rt.alloc(), &names)?;
         let mut host = host_with(&rt, rt.alloc(), FILE);
-        // The one call fails, and so nothing is said.
+        // The one call fails, and so nothing is printed.
         host.fail_call(rt.alloc(), 0).ok().expect(&rt, "a call");
         assert_eq!(rt; avgraph(&rt, rt.alloc(), &words, &mut host, &OpenGate), 15);
         assert_eq!(rt; host.said(), b"".as_slice());

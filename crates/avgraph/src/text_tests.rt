@@ -7,7 +7,7 @@ use std::process::Abort;
 use std::test::Fail;
 use std::thread::Threads;
 
-/// What the file is written as where its samples stay.
+/// What the file is written as if its samples stay.
 const KEPT: &[u8] =
     b"YUV4MPEG2 W4 H2 F25:1 Ip A0:0 C420jpeg\nFRAME\n\x01\x02\x03\x04\x05\x06\x07\x08\x09\x0a\x0b\x0c";
 
@@ -46,7 +46,7 @@ fn a_chain_of_filters_is_passed_in_turn(rt: HostRuntime) -> Result<(), Fail> {
 }
 
 /// Runs a command with this text, of which only the first call of the host may succeed; its status, and whether just
-/// this line was said and no output created.
+/// this line was printed and no output created.
 fn refusal(
     rt: &(impl Abort + Threads + Sync),
     alloc: Global,
@@ -111,7 +111,7 @@ fn filters_and_arguments_are_refused_before_any_file_is_opened(
             "avgraph: BadValue filter=2 option=1\n",
         ),
         ("format", "avgraph: MissingOption filter=0\n"),
-        // A filter is refused before the labels of an earlier one are seen.
+        // A filter is rejected before the labels of an earlier one are seen.
         ("[a]null,blur", "avgraph: UnknownFilter filter=1\n"),
     ] {
         let refused = refusal(&rt, rt.alloc(), text, line)?;
@@ -146,7 +146,7 @@ fn filters_that_cannot_be_made_ready_are_refused_before_the_output_is_created(
             "avgraph: TooLarge filter=0 found=8193 allowed=8192\n",
         ),
         ("format=gray", 7, "avgraph: NoCommonFormat link=0\n"),
-        // That no format suits all is told before what stands against a filter.
+        // That no format suits all comes before the fault of a filter's settings.
         (
             "crop=iw+2,format=gray",
             7,

@@ -1,7 +1,7 @@
 //! The top call: the command from its words to its status.
 ghost use Rattle.std.specs.Prelude.{◌≡◌, ◌≢◌, ◌⊎◌, map, Err, string_bytes};
 ghost use Rattle.std.specs.Option.{ForSome};
-ghost use Rattle.avgraph.specs.declared.TheConstants.{LIMIT};
+ghost use Rattle.avgraph.specs.Bounds.{greatest_input};
 ghost use Rattle.av_faults.specs.declared.fault.Fault.{Fault};
 ghost use Rattle.av_faults.specs.declared.fault.Stop.{Stop};
 ghost use Rattle.avgraph.specs.Requests.{Request, IsRequest, IsRefused, IsRefusedAtOnce};
@@ -16,7 +16,7 @@ use av_host::{Host, say_all};
 use std::alloc::Global;
 use std::thread::Threads;
 
-/// What stands between a run and the turns of its filters. There is no turn yet, and so no call.
+/// What comes between a run and the turns of its filters. There is no turn yet, and so no call.
 pub trait Gate: Sync {}
 
 /// The gate of the shipped program, which adds nothing.
@@ -25,7 +25,7 @@ pub struct OpenGate;
 
 impl Gate for OpenGate {}
 
-/// Says the line of a stop, and answers the status.
+/// Prints the line of a stop, and returns the status.
 fn report<H: Host>(host: &mut H, outcome: Result<(), Stop>) -> u8
     ensures { Reports (H.world host.old) (H.world host.new) outcome result }
 {
@@ -46,7 +46,7 @@ fn obey<R: Threads + Sync, H: Host>(
     words: &[String],
     host: &mut H,
 ) -> Result<(), Stop>
-    ensures { Obeys LIMIT (map string_bytes words.now) (H.world host.old) (H.world host.new) result }
+    ensures { Obeys greatest_input (map string_bytes words.now) (H.world host.old) (H.world host.new) result }
 {
     let Some((input, text, output)) = read_first_form(words) else {
         return Err(Stop::Fault(Fault::NotYet));
@@ -59,17 +59,17 @@ fn obey<R: Threads + Sync, H: Host>(
 
 /// Obeys the words, and reports.
 fn act<R: Threads + Sync, H: Host>(rt: &R, alloc: Global, words: &[String], host: &mut H) -> u8
-    ensures { Acts LIMIT (map string_bytes words.now) (H.world host.old) (H.world host.new) result }
+    ensures { Acts greatest_input (map string_bytes words.now) (H.world host.old) (H.world host.new) result }
 {
     let outcome = obey(rt, alloc, words, host);
     report(host, outcome)
 }
 
-/// Runs the command that the words name, and answers the program's status: 0 where all was done, 3 where the graph text
-/// has no reading, 4 where a filter or its arguments are refused, 7 where the filters have no common format, 8 where a
-/// filter can't be made ready, 10 where the text passes a limit, 11 where an input was not opened or an output not
-/// created, 12 and 13 where a read or a write failed, 14 for want of memory, and 15 where the words, the graph or the
-/// input are outside of what the command can do today. After any status but 0 one line was said.
+/// Runs the command that the words name, and returns the program's status: 0 if all was done, 3 if the graph text has no
+/// reading, 4 if a filter or its arguments are rejected, 7 if the filters have no common format, 8 if a filter can't be
+/// made ready, 10 if the text passes a limit, 11 if an input was not opened or an output not created, 12 and 13 if a
+/// read or a write failed, 14 if out of memory, and 15 if the words, the graph or the input are outside of what the
+/// command can do today. After any status but 0 one line was printed.
 pub fn avgraph<R: Threads + Sync, H: Host, G: Gate>(
     rt: &R,
     alloc: Global,
@@ -77,29 +77,29 @@ pub fn avgraph<R: Threads + Sync, H: Host, G: Gate>(
     host: &mut H,
     _gate: &G,
 ) -> u8
-    // A fault that stands in the words or in the text is answered, or want of memory, and the host is asked for nothing
-    // but sayings. Words of another form and a text that is too long want no memory.
+    // A fault of the words or of the text is returned, or out of memory, and the host is asked only to print. Words of
+    // another form and a text that is too long take no memory.
     ensures refused { (fault : Fault) → IsRefused (map string_bytes words.now) fault → Refuses (H.world host.old) (H.world host.new) fault result }
     ensures at_once { (fault : Fault) → IsRefusedAtOnce (map string_bytes words.now) fault
         → Reports (H.world host.old) (H.world host.new) (Err (Stop.Fault fault)) result }
-    // A status of 3, 4 or 10 names a fault that stands, and a status of 0 has a request.
+    // A status of 3, 4 or 10 is that of a fault of the words or of the text, and a status of 0 has a request.
     ensures stands { (result ≡ 3) ⊎ ((result ≡ 4) ⊎ (result ≡ 10)) → (fault : Fault) × IsRefused (map string_bytes words.now) fault
         × Reports (H.world host.old) (H.world host.new) (Err (Stop.Fault fault)) result }
     ensures asked { result ≡ 0 → (request : Request) × IsRequest (map string_bytes words.now) request }
 
-    // The output holds exactly the answer, and nothing is left of the input.
+    // The output holds exactly the result, and nothing is left of the input.
     ensures done { result ≡ 0 → (request : Request) → IsRequest (map string_bytes words.now) request →
-        ForSome ((H.world host.old).held request.input) (Done LIMIT request.calls (H.world host.old) (H.world host.new) request.output) }
-    // A status of 7, 8 or 15 names a fault that stands in the input.
+        ForSome ((H.world host.old).held request.input) (Done greatest_input request.calls (H.world host.old) (H.world host.new) request.output) }
+    // A status of 7, 8 or 15 is that of a fault of the input.
     ensures names { (result ≡ 7) ⊎ ((result ≡ 8) ⊎ (result ≡ 15)) → (request : Request) → IsRequest (map string_bytes words.now) request →
-        ForSome ((H.world host.old).held request.input) (Names LIMIT request.calls (H.world host.old) (H.world host.new) result) }
+        ForSome ((H.world host.old).held request.input) (Names greatest_input request.calls (H.world host.old) (H.world host.new) result) }
     ensures complete { IsQuiet (H.world host.old).faults (H.world host.new).faults → (request : Request) → IsRequest (map string_bytes words.now) request →
-        ForSome ((H.world host.old).held request.input) (Completes LIMIT request.calls result) }
+        ForSome ((H.world host.old).held request.input) (Completes greatest_input request.calls result) }
 
-    // A status of 11, 12 or 13 comes exactly where its count rose.
+    // A status of 11, 12 or 13 comes exactly if its count rose.
     ensures cause { HasCause (H.world host.old).faults (H.world host.new).faults result }
 
-    // Nothing but the output changes, and it holds a beginning of the answer.
+    // Only the output changes, and it holds a beginning of the result.
     ensures kept { (request : Request) → IsRequest (map string_bytes words.now) request →
         Keeps request.calls (H.world host.old) (H.world host.new) request.input request.output }
     // No output is created before the input's header was read and the filters are ready for its pictures.

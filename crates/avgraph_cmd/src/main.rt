@@ -3,8 +3,12 @@
 
 use av_host::RealHost;
 use avgraph::{OpenGate, avgraph};
+use std::alloc::Global;
 use std::process::ExitCode;
 use std::{env, io};
+
+/// The size of the block that is freed at the start: 31 MiB, which is below the C library's limit with its header.
+const FREED_BLOCK: usize = 31 << 20;
 
 /// Runs the command that the words after the program's name give. Words that are no text name no command.
 fn main(rt: HostRuntime) -> ExitCode {
@@ -17,8 +21,16 @@ fn main(rt: HostRuntime) -> ExitCode {
         Err(error) if error.kind() == io::ErrorKind::OutOfMemory => return no_memory(&rt),
         Err(_) => Vec::new(alloc),
     };
+    keep_freed_memory(alloc);
     let mut host = RealHost::new(&rt, alloc);
     ExitCode::from(avgraph(&rt, alloc, &words, &mut host, &OpenGate))
+}
+
+/// Has the C library keep the memory of planes that are given back, for the planes of the next picture. It keeps up to twice
+/// the size of the largest block that it unmapped so far, and counts blocks of up to 32 MiB. So one such block is allocated
+/// and freed, and no page of it is touched. Out of memory, nothing changes but the speed.
+fn keep_freed_memory(alloc: Global) {
+    let _block: Result<Vec<u8>, _> = Vec::with_capacity(alloc, FREED_BLOCK);
 }
 
 /// There was no memory for the words.

@@ -7,7 +7,7 @@ use Rattle.av_base.specs.declared.formats.Format.{Format}
 use Rattle.av_base.specs.declared.formats.Format.TheVariants as format
 use Rattle.av_base.specs.declared.sets.FormatSet.{FormatSet}
 use Rattle.av_base.specs.FormatSets.{Has}
-use Rattle.av_frame.specs.Words.{word_in}
+use Rattle.av_filter.specs.Words.{word_in}
 use Rattle.filt_video.specs.Formats.{format_words, IsNamed, AreFormats}
 
 pub no_formats : (set : FormatSet) → ((f : Format) → ¬ Has set f) → AreFormats [] set

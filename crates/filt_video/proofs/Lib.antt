@@ -1,10 +1,3 @@
-mod WorthLemmas
 mod FormatLemmas
-mod PaintFrameLemmas
 mod ShuffleLemmas
 mod TransposeLemmas
-mod CropLemmas
-mod LutyuvLemmas
-mod PadLemmas
-mod PasteLemmas
-mod MapFrameLemmas

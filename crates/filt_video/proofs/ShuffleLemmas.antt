@@ -4,7 +4,7 @@ use Rattle.std.specs.Prelude.{slice_index}
 use Rattle.std.proofs.lemmas.Bool.Decides.{nat_tests}
 use Rattle.av_base.specs.declared.shapes.Shape.{Shape}
 use Rattle.av_base.specs.Shapes.{planes_of, width_of, height_of}
-use Rattle.av_frame.specs.Limits.{IsSmall, PassesLimit}
+use Rattle.av_filter.specs.Limits.{IsSmall, PassesLimit}
 use Rattle.av_frame.specs.declared.refusals.ConfigError.{ConfigError}
 use Rattle.av_frame.specs.declared.refusals.ConfigError.TheVariants.{BadGeometry, SizeMismatch}
 use Rattle.filt_video.specs.Shuffleplanes.{AreSameSize, HasOrderFault, IsOrderRefused, IsFilled, IsOrder, order_outcome}

@@ -2,7 +2,7 @@
 use Rattle.std.proofs.Common.{◌≡◌, Bool, Ok, Err, refl, ◌∙◌, ap, subst, inl, inr}
 use Rattle.av_base.specs.Shapes.{width_of, height_of}
 use Rattle.av_base.specs.declared.shapes.Shape.{Shape}
-use Rattle.av_frame.specs.Limits.{IsSmall, PassesLimit}
+use Rattle.av_filter.specs.Limits.{IsSmall, PassesLimit}
 use Rattle.av_frame.specs.declared.refusals.ConfigError.{ConfigError}
 use Rattle.filt_video.specs.Transpose.{passes, transpose_settings, transposed_shape, transpose_outcome}
 use Rattle.filt_video.specs.declared.transpose.TransposeOptions.{TransposeOptions}

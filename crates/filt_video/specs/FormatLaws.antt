@@ -4,7 +4,7 @@ use Rattle.std.proofs.Common.{inl, inr, ◌∙◌, sym, ap, subst, arith}
 use Rattle.std.proofs.lemmas.Option.{same_Some}
 use Rattle.av_base.proofs.FormatSetLemmas.{in_none, in_more}
 use Rattle.av_base.specs.FormatSets.{place_of, Has}
-use Rattle.av_base.specs.Shapes.{width_of, height_of}
+use Rattle.av_base.specs.Shapes.{width_of, height_of, IsPictureShape, IsPictured}
 use Rattle.av_base.specs.declared.formats.PixelFormat.{PixelFormat}
 use Rattle.av_base.specs.declared.formats.Format.{Format}
 use Rattle.av_base.specs.declared.formats.Format.TheVariants as format
@@ -12,20 +12,20 @@ use Rattle.av_base.specs.declared.sets.FormatSet.{FormatSet}
 use Rattle.av_base.specs.declared.shapes.Shape.{Shape}
 use Rattle.av_text.specs.declared.arguments.Arg.{Arg}
 use Rattle.av_frame.specs.Frames.{FrameValue}
-use Rattle.av_frame.specs.Limits.{IsPictureShape, IsPictured, after_limits}
-use Rattle.av_frame.specs.Meanings.{Follows, HasOneOutcome, HasOneReading, IsReading, IsSettled, MakingLaws, MeaningLaws, ReadingLaws, is_of_stream}
-use Rattle.av_frame.specs.Options.{HasGiven, AreTaken, IsFirstFault, IsGiven}
-use Rattle.av_frame.specs.OptionExistence.{AreDecided, AreNumbered, given_some, given_taken, taken_or_refused}
-use Rattle.av_frame.specs.OptionLaws.{one_first, none_first}
-use Rattle.av_frame.specs.Outcomes.{HasOne, ends_one}
-use Rattle.av_frame.specs.Readings.{both_have}
+use Rattle.av_filter.specs.Limits.{after_limits}
+use Rattle.av_filter.specs.Meanings.{Follows, HasOneOutcome, HasOneReading, IsReading, IsSettled, MakingLaws, MeaningLaws, ReadingLaws, is_of_stream}
+use Rattle.av_filter.specs.Options.{HasGiven, AreTaken, IsFirstFault, IsGiven}
+use Rattle.av_filter.specs.OptionExistence.{AreDecided, AreNumbered, given_some, given_taken, taken_or_refused}
+use Rattle.av_filter.specs.OptionLaws.{one_first, none_first}
+use Rattle.av_filter.specs.Outcomes.{HasOne, ends_one}
+use Rattle.av_filter.specs.Readings.{both_have}
 use Rattle.av_frame.specs.Rules.{SameTimes}
-use Rattle.av_frame.specs.Words.{word_in}
-use Rattle.av_frame.specs.WordLaws.{word_below}
+use Rattle.av_filter.specs.Words.{word_in}
+use Rattle.av_filter.specs.WordLaws.{word_below}
 use Rattle.av_frame.specs.declared.refusals.OptionError.{OptionError}
 use Rattle.av_frame.specs.declared.refusals.OptionError.TheVariants.{MissingOption}
 use Rattle.filt_video.specs.Formats.{format_words, parts_of, IsNamed, AreFormats, IsFormatList, format_names, format_takes, formats_are, FormatHas, completed, format_rules, IsListed, format_outcome, format_making, format_filter}
-use Rattle.filt_video.specs.Values.{IsDecided, word_or_none}
+use Rattle.av_filter.specs.Decisions.{IsDecided, word_or_none}
 use Rattle.filt_video.specs.declared.format.FormatOptions.{FormatOptions}
 use Rattle.filt_video.specs.declared.format.FormatRule.{FormatRule}
 

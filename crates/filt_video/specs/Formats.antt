@@ -9,11 +9,11 @@ use Rattle.av_base.specs.declared.sets.FormatSet.{FormatSet}
 use Rattle.av_base.specs.FormatSets.{Has}
 use Rattle.av_base.specs.Shapes.{width_of, height_of}
 use Rattle.av_base.specs.declared.shapes.Shape.{Shape}
-use Rattle.av_frame.specs.Limits.{AfterLimits}
-use Rattle.av_frame.specs.Meanings.{OptionRules, Making, Meaning}
+use Rattle.av_filter.specs.Limits.{AfterLimits}
+use Rattle.av_filter.specs.Meanings.{OptionRules, Making, Meaning}
 use Rattle.av_frame.specs.declared.refusals.OptionError.{OptionError}
 use Rattle.av_frame.specs.declared.refusals.OptionError.TheVariants.{MissingOption}
-use Rattle.av_frame.specs.Words.{word_in}
+use Rattle.av_filter.specs.Words.{word_in}
 use Rattle.av_frame.specs.declared.refusals.ConfigError.{ConfigError}
 use Rattle.filt_video.specs.declared.format.FormatOptions.{FormatOptions}
 use Rattle.filt_video.specs.declared.format.FormatRule.{FormatRule}

@@ -1,9 +1,9 @@
 -- Pictures turned from left to right (FFmpeg Filters Documentation, hflip).
 use Rattle.std.specs.Prelude.{ℕ, ◌-◌, length, slice_index, codes, refl}
 use Rattle.av_frame.specs.Frames.{FrameValue, plane_at}
-use Rattle.av_frame.specs.Meanings.{Meaning, MeaningLaws}
+use Rattle.av_filter.specs.Meanings.{Meaning, MeaningLaws}
 use Rattle.av_frame.specs.Pictures.{repainted, repainted_keeps}
-use Rattle.av_frame.specs.Plains.{plain_meaning, plain_meaning_laws}
+use Rattle.av_filter.specs.Plains.{plain_meaning, plain_meaning_laws}
 use Rattle.av_frame.specs.Rasters.{row_of}
 use Rattle.filt_video.specs.declared.hflip.HflipRule.{HflipRule}
 

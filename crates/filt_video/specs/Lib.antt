@@ -1,14 +1,3 @@
-pub mod Worth
-pub mod Geometry
-pub mod Values
-pub mod Texts
-pub mod Given
-pub mod Defaults
-pub mod Sizes
-pub mod Places
-pub mod Rounding
-pub mod Crop
-pub mod CropLaws
 pub mod Formats
 pub mod FormatLaws
 pub mod Hflip
@@ -19,7 +8,5 @@ pub mod TransposeLaws
 pub mod Vflip
 pub mod Negate
 pub mod Null
-pub mod Lutyuv
-pub mod LutyuvLaws
-pub mod Pad
-pub mod PadLaws
+pub mod VideoFilters
+pub mod VideoFilterLaws

@@ -1,9 +1,9 @@
 -- Negated pictures (FFmpeg Filters Documentation, negate).
 use Rattle.std.specs.Prelude.{ℕ, ◌-◌, ◌==◌, if◌then◌else◌, codes, refl}
 use Rattle.av_frame.specs.Frames.{FrameValue}
-use Rattle.av_frame.specs.Meanings.{Meaning, MeaningLaws}
+use Rattle.av_filter.specs.Meanings.{Meaning, MeaningLaws}
 use Rattle.av_frame.specs.Pictures.{sample, repainted, repainted_keeps}
-use Rattle.av_frame.specs.Plains.{plain_meaning, plain_meaning_laws}
+use Rattle.av_filter.specs.Plains.{plain_meaning, plain_meaning_laws}
 use Rattle.filt_video.specs.declared.negate.NegateRule.{NegateRule}
 
 -- out(p, r, c) = 255 - in(p, r, c) in Y, U and V; A, plane 3, stays

@@ -1,7 +1,7 @@
 -- Pictures that pass as they are (FFmpeg Filters Documentation, null).
 use Rattle.std.specs.Prelude.{codes, refl}
-use Rattle.av_frame.specs.Meanings.{Meaning, MeaningLaws}
-use Rattle.av_frame.specs.Plains.{plain_meaning, plain_meaning_laws}
+use Rattle.av_filter.specs.Meanings.{Meaning, MeaningLaws}
+use Rattle.av_filter.specs.Plains.{plain_meaning, plain_meaning_laws}
 use Rattle.filt_video.specs.declared.null.NullRule.{NullRule}
 
 abbrev pub null : Meaning

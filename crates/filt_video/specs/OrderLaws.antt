@@ -7,24 +7,24 @@ use Rattle.std.proofs.lemmas.List.{ext_get_or}
 use Rattle.av_base.specs.declared.formats.PixelFormat.{PixelFormat}
 use Rattle.av_base.specs.declared.formats.PixelFormat.TheVariants.{Gray, Yuv420p, Yuv422p, Yuv444p, Yuva420p, Yuva422p, Yuva444p}
 use Rattle.av_base.specs.Planes.{plane_count_of}
-use Rattle.av_base.specs.Shapes.{planes_of, columns_of, rows_of, width_of, height_of, pixel_format_of}
+use Rattle.av_base.specs.Shapes.{planes_of, columns_of, rows_of, width_of, height_of, pixel_format_of, IsPictureShape, IsPictured}
 use Rattle.av_base.specs.declared.shapes.Shape.{Shape}
 use Rattle.av_text.specs.declared.arguments.Arg.{Arg}
 use Rattle.av_frame.specs.Frames.{FrameValue}
-use Rattle.av_frame.specs.Limits.{IsPictureShape, IsPictured, after_limits}
-use Rattle.av_frame.specs.Meanings.{HasOneOutcome, HasOneReading, IsReading, IsSettled, MakingLaws, MeaningLaws, ReadingLaws, is_of_stream}
-use Rattle.av_frame.specs.Options.{IsWholeWithin}
-use Rattle.av_frame.specs.OptionExistence.{AreDecided, AreNumbered}
-use Rattle.av_frame.specs.Outcomes.{IsOne, HasOne, ends_one, after_fault}
+use Rattle.av_filter.specs.Limits.{after_limits}
+use Rattle.av_filter.specs.Meanings.{HasOneOutcome, HasOneReading, IsReading, IsSettled, MakingLaws, MeaningLaws, ReadingLaws, is_of_stream}
+use Rattle.av_filter.specs.Options.{IsWholeWithin}
+use Rattle.av_filter.specs.OptionExistence.{AreDecided, AreNumbered}
+use Rattle.av_filter.specs.Outcomes.{IsOne, HasOne, ends_one, after_fault}
 use Rattle.av_frame.specs.Pictures.{repainted_keeps}
-use Rattle.av_frame.specs.Readings.{OptionLaws, BothHave, complete_law}
+use Rattle.av_filter.specs.Readings.{OptionLaws, BothHave, complete_law}
 use Rattle.av_frame.specs.Rules.{SameTimes}
-use Rattle.av_frame.specs.WordLaws.{word_below}
+use Rattle.av_filter.specs.WordLaws.{word_below}
 use Rattle.av_frame.specs.declared.refusals.ConfigError.{ConfigError}
-use Rattle.filt_video.specs.Places.{HasPlace}
+use Rattle.av_filter.specs.Places.{HasPlace}
 use Rattle.filt_video.specs.Shuffleplanes.{order_names, order_takes, order_has, OrderHas, order_rules, shuffled, AreSameSize, HasOrderFault, IsOrderRefused, IsFilled, IsOrder, order_outcome, order_making, shuffleplanes}
-use Rattle.filt_video.specs.Texts.{within_decided, within_one, both_decided}
-use Rattle.filt_video.specs.Values.{IsDecided, search_values, list_of}
+use Rattle.av_filter.specs.Texts.{within_decided, within_one, both_decided}
+use Rattle.av_filter.specs.Decisions.{IsDecided, search_values, list_of}
 use Rattle.filt_video.specs.declared.shuffleplanes.PlaneOrder.{PlaneOrder}
 
 -- ---- options

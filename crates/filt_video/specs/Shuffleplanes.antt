@@ -5,10 +5,10 @@ use Rattle.av_base.specs.Shapes.{planes_of, columns_of, rows_of, width_of, heigh
 use Rattle.av_frame.specs.declared.refusals.ConfigError.{ConfigError}
 use Rattle.av_frame.specs.declared.refusals.ConfigError.TheVariants.{BadGeometry, SizeMismatch}
 use Rattle.av_frame.specs.Frames.{FrameValue}
-use Rattle.av_frame.specs.Limits.{AfterLimits}
-use Rattle.av_frame.specs.Meanings.{OptionRules, is_complete, Making, Meaning}
-use Rattle.av_frame.specs.Options.{IsWholeWithin}
-use Rattle.av_frame.specs.Outcomes.{AfterFault}
+use Rattle.av_filter.specs.Limits.{AfterLimits}
+use Rattle.av_filter.specs.Meanings.{OptionRules, is_complete, Making, Meaning}
+use Rattle.av_filter.specs.Options.{IsWholeWithin}
+use Rattle.av_filter.specs.Outcomes.{AfterFault}
 use Rattle.av_frame.specs.Pictures.{sample, repainted}
 use Rattle.filt_video.specs.declared.shuffleplanes.PlaneOrder.{PlaneOrder}
 

@@ -10,10 +10,10 @@ use Rattle.av_base.specs.declared.shapes.Props.{Props}
 use Rattle.av_base.specs.declared.shapes.Props.TheVariants as props
 use Rattle.av_base.specs.Shapes.{columns_of, rows_of, width_of, height_of}
 use Rattle.av_frame.specs.Frames.{FrameValue}
-use Rattle.av_frame.specs.Limits.{AfterLimits}
-use Rattle.av_frame.specs.Meanings.{OptionRules, is_complete, Making, Meaning}
+use Rattle.av_filter.specs.Limits.{AfterLimits}
+use Rattle.av_filter.specs.Meanings.{OptionRules, is_complete, Making, Meaning}
 use Rattle.av_frame.specs.Pictures.{sample, painted}
-use Rattle.av_frame.specs.Words.{word_in}
+use Rattle.av_filter.specs.Words.{word_in}
 use Rattle.av_frame.specs.declared.refusals.ConfigError.{ConfigError}
 use Rattle.filt_video.specs.declared.transpose.Turn.{Turn}
 use Rattle.filt_video.specs.declared.transpose.Turn.TheVariants.{CclockFlip, Clock, Cclock, ClockFlip}

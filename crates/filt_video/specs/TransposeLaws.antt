@@ -4,7 +4,7 @@ use Rattle.std.proofs.Common.{inl, inr, ◌∙◌, sym, subst, arith}
 use Rattle.std.proofs.lemmas.Bool.Decides.{nat_tests}
 use Rattle.std.proofs.lemmas.Nat.Gcd.{IsGcd-swap}
 use Rattle.av_base.specs.Numbers.{IsRatio}
-use Rattle.av_base.specs.Shapes.{IsLawful}
+use Rattle.av_base.specs.Shapes.{IsLawful, IsPictureShape, IsPictured}
 use Rattle.av_base.specs.declared.numbers.Ratio.{Ratio}
 use Rattle.av_base.specs.declared.formats.Format.{Format}
 use Rattle.av_base.specs.declared.formats.Format.TheVariants as format
@@ -13,16 +13,16 @@ use Rattle.av_base.specs.declared.shapes.Props.{Props}
 use Rattle.av_base.specs.declared.shapes.Props.TheVariants as props
 use Rattle.av_text.specs.declared.arguments.Arg.{Arg}
 use Rattle.av_frame.specs.Frames.{FrameValue}
-use Rattle.av_frame.specs.Limits.{IsPictureShape, IsPictured, after_limits}
-use Rattle.av_frame.specs.Meanings.{AreOfStream, HasOneOutcome, HasOneReading, IsOfStream, IsReading, IsSettled, MakingLaws, MeaningLaws, ReadingLaws, is_of_stream}
-use Rattle.av_frame.specs.OptionExistence.{AreDecided, AreNumbered}
-use Rattle.av_frame.specs.Outcomes.{HasOne, ends_one}
+use Rattle.av_filter.specs.Limits.{after_limits}
+use Rattle.av_filter.specs.Meanings.{AreOfStream, HasOneOutcome, HasOneReading, IsOfStream, IsReading, IsSettled, MakingLaws, MeaningLaws, ReadingLaws, is_of_stream}
+use Rattle.av_filter.specs.OptionExistence.{AreDecided, AreNumbered}
+use Rattle.av_filter.specs.Outcomes.{HasOne, ends_one}
 use Rattle.av_frame.specs.Pictures.{painted}
-use Rattle.av_frame.specs.Readings.{OptionLaws, BothHave, complete_law}
+use Rattle.av_filter.specs.Readings.{OptionLaws, BothHave, complete_law}
 use Rattle.av_frame.specs.Rules.{SameTimes}
-use Rattle.av_frame.specs.WordLaws.{word_below}
+use Rattle.av_filter.specs.WordLaws.{word_below}
 use Rattle.filt_video.specs.Transpose.{transpose_names, turns, passthroughs, TransposeTakes, TransposeHas, turn_is, passthrough_is, transpose_rules, transpose_settings, turned_props, turned_shape, transposed_shape, turned, transpose_outcome, transpose_making, transpose}
-use Rattle.filt_video.specs.Values.{word_decided}
+use Rattle.av_filter.specs.Decisions.{word_decided}
 use Rattle.filt_video.specs.declared.transpose.Turn.{Turn}
 use Rattle.filt_video.specs.declared.transpose.Turn.TheVariants.{CclockFlip}
 use Rattle.filt_video.specs.declared.transpose.Passthrough.{Passthrough}

@@ -2,9 +2,9 @@
 use Rattle.std.specs.Prelude.{ℕ, ◌-◌, codes, refl}
 use Rattle.av_base.specs.Shapes.{rows_of}
 use Rattle.av_frame.specs.Frames.{FrameValue}
-use Rattle.av_frame.specs.Meanings.{Meaning, MeaningLaws}
+use Rattle.av_filter.specs.Meanings.{Meaning, MeaningLaws}
 use Rattle.av_frame.specs.Pictures.{sample, repainted, repainted_keeps}
-use Rattle.av_frame.specs.Plains.{plain_meaning, plain_meaning_laws}
+use Rattle.av_filter.specs.Plains.{plain_meaning, plain_meaning_laws}
 use Rattle.filt_video.specs.declared.vflip.VflipRule.{VflipRule}
 
 -- out(p, r, c) = in(p, h - 1 - r, c), where plane p has h rows

@@ -1,10 +1,8 @@
 //! The filter `format`: frames pass, whose format is one of a list.
 use crate::format_list::read_formats;
 use av_base::{Format, FormatSet, List, NoMemory, Shape};
-use av_frame::{
-    ConfigError, Frame, FrameRule, Framewise, NamedRule, OptionError, Options, Pools, Returned,
-    check_shape, read_options,
-};
+use av_filter::{FrameRule, Framewise, NamedRule, Options, check_shape, read_options};
+use av_frame::{ConfigError, Frame, OptionError, Pools, Returned};
 use av_text::Arg;
 use std::alloc::Global;
 

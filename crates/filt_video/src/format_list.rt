@@ -1,7 +1,7 @@
 //! Lists of formats.
 ghost use Rattle.std.specs.Prelude.{◌≡◌, IfSome, IsNone};
 ghost use Rattle.av_base.specs.declared.sets.FormatSet.{FormatSet};
-ghost use Rattle.av_frame.specs.Words.{word_in};
+ghost use Rattle.av_filter.specs.Words.{word_in};
 ghost use Rattle.filt_video.specs.Formats.{format_words, IsFormatList};
 
 use av_base::{Format, FormatSet, PixelFormat};

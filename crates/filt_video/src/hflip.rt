@@ -1,6 +1,6 @@
 //! The filter `hflip`: pictures are turned from left to right.
-use crate::map_frame::map_frame;
-use av_frame::{Frame, Framewise, Plain, PlainRule, Pools, Returned, RowMap};
+use av_filter::{Framewise, Plain, PlainRule, map_frame};
+use av_frame::{Frame, Pools, Returned, RowMap};
 use std::alloc::Global;
 
 /// The filter `hflip`. It has no options.

@@ -1,8 +1,8 @@
 //! The filter `negate`: the samples of Y, U and V are negated.
 ghost use Rattle.std.specs.Prelude.{◌≡◌, ◌<◌, ◌-◌, ℕ, length, slice_index};
 
-use crate::map_frame::map_frame;
-use av_frame::{Frame, Framewise, Plain, PlainRule, Pools, Returned, RowMap};
+use av_filter::{Framewise, Plain, PlainRule, map_frame};
+use av_frame::{Frame, Pools, Returned, RowMap};
 use std::alloc::Global;
 
 /// The filter `negate`. It has no options.

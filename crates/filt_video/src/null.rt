@@ -1,5 +1,6 @@
 //! The filter `null`: pictures pass as they are.
-use av_frame::{Frame, Framewise, Plain, PlainRule, Pools, Returned};
+use av_filter::{Framewise, Plain, PlainRule};
+use av_frame::{Frame, Pools, Returned};
 use std::alloc::Global;
 
 /// The filter `null`. It has no options.

@@ -1,16 +1,14 @@
 //! The filter `shuffleplanes`: planes change places.
 ghost use Rattle.std.specs.Prelude.{◌<◌, IfOk, IfErr};
-ghost use Rattle.av_base.specs.Shapes.{planes_of};
-ghost use Rattle.av_frame.specs.Limits.{IsPictureShape};
+ghost use Rattle.av_base.specs.Shapes.{planes_of, IsPictureShape};
 ghost use Rattle.filt_video.specs.Shuffleplanes.{HasOrderFault, IsOrderRefused, IsFilled, IsOrder};
 
-use crate::paint_frame::paint_frame;
-use crate::source::{read_part, read_sample};
 use av_base::{Format, List, NoMemory, Shape};
-use av_frame::{
-    ConfigError, Frame, FrameRule, Framewise, Kernel, NamedRule, OptionError, Options, Pools,
-    Returned, check_shape, read_options, read_whole_within,
+use av_filter::{
+    FrameRule, Framewise, NamedRule, Options, check_shape, paint_frame, read_options, read_part,
+    read_sample, read_whole_within,
 };
+use av_frame::{ConfigError, Frame, Kernel, OptionError, Pools, Returned};
 use av_text::Arg;
 use std::alloc::Global;
 
@@ -108,7 +106,7 @@ fn check_planes(shape: Shape, order: PlaneOrder) -> Result<(), ConfigError>
 impl Kernel for PlaneOrder {
     ghost use Rattle.std.specs.Prelude.{slice_index};
     ghost use Rattle.av_frame.specs.Sources.{source_at};
-    ghost use Rattle.filt_video.specs.Places.{HasPlace};
+    ghost use Rattle.av_filter.specs.Places.{HasPlace};
     ghost use Rattle.filt_video.specs.Shuffleplanes.{shuffled};
 
     ghost fits = { λ k sources p r c. (p < 4) × HasPlace sources (slice_index k.maps p) r c };

@@ -1,17 +1,16 @@
 //! The filter `transpose`: rows and columns are exchanged.
 ghost use Rattle.std.specs.Prelude.{◌≡◌, ◌<◌};
 ghost use Rattle.av_base.specs.declared.numbers.Ratio.{Ratio};
-ghost use Rattle.av_frame.specs.Words.{word_in};
-ghost use Rattle.av_frame.specs.Limits.{IsPictureShape};
+ghost use Rattle.av_filter.specs.Words.{word_in};
+ghost use Rattle.av_base.specs.Shapes.{IsPictureShape};
 ghost use Rattle.filt_video.specs.Transpose.{turns, passthroughs, passes, turned_aspect, turned_shape, transposed_shape, source_row, source_column};
 
-use crate::paint_frame::paint_frame;
-use crate::source::{read_column, read_sample, size_of};
 use av_base::{Format, List, NoMemory, PixelFormat, Props, Ratio, Shape, VideoProps};
-use av_frame::{
-    ConfigError, Frame, FrameRule, Framewise, Kernel, NamedRule, OptionError, Options, Pools,
-    Returned, check_shape, picture_parts, picture_size, read_options,
+use av_filter::{
+    FrameRule, Framewise, NamedRule, Options, check_shape, paint_frame, picture_parts,
+    picture_size, read_column, read_options, read_part, read_sample, size_of,
 };
+use av_frame::{ConfigError, Frame, Kernel, OptionError, Pools, Returned};
 use av_text::Arg;
 use std::alloc::Global;
 
@@ -225,7 +224,7 @@ impl TransposeSettings {
 /// The sample in row r and column c is that of a column and a row which r and c name.
 impl Kernel for Turn {
     ghost use Rattle.av_frame.specs.Sources.{source_at};
-    ghost use Rattle.filt_video.specs.Places.{HasPlace};
+    ghost use Rattle.av_filter.specs.Places.{HasPlace};
     ghost use Rattle.filt_video.specs.Transpose.{turned};
 
     ghost fits = { λ turn sources p r c. HasPlace sources p c r };
@@ -252,6 +251,26 @@ impl Kernel for Turn {
                 out.reverse();
             }
         }
+    }
+
+    fn column(&self, sources: &mut [Frame], plane: u32, row: u32, column: u32, out: &mut [u8]) {
+        if out.is_empty() {
+            return;
+        }
+        let (columns, rows) = size_of(sources, plane);
+        let from_row = self.source_row(rows, column);
+        match self {
+            Turn::CclockFlip | Turn::Clock => read_part(sources, plane, from_row, row, out),
+            Turn::Cclock | Turn::ClockFlip => {
+                let from_column = columns - row - out.len() as u32;
+                read_part(sources, plane, from_row, from_column, out);
+                out.reverse();
+            }
+        }
+    }
+
+    fn has_columns(&self) -> bool {
+        true
     }
 }
 

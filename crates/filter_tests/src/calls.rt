@@ -2,7 +2,7 @@
 ghost use Rattle.std.specs.Prelude.{◌≡◌, [], ◌∷◌, IfOk};
 ghost use Rattle.av_frame.specs.FilterLaws.{one_to};
 ghost use Rattle.av_frame.specs.Frames.{FrameValue};
-ghost use Rattle.av_frame.specs.Limits.{IsPictureShape};
+ghost use Rattle.av_base.specs.Shapes.{IsPictureShape};
 ghost use Rattle.node_core.specs.Shaping.{Takes, IsReady};
 
 use crate::pictures::{DURATION, Input, PTS, picture_of_numbers, shape_of, written};

@@ -2,10 +2,11 @@
 ghost use Rattle.std.specs.Prelude.{◌≡◌, IfOk};
 ghost use Rattle.av_base.specs.Numbers.{IsRatio};
 ghost use Rattle.av_base.specs.declared.formats.Format.TheVariants as format;
-ghost use Rattle.av_frame.specs.Limits.{IsPictureShape};
+ghost use Rattle.av_base.specs.Shapes.{IsPictureShape};
 
 use av_base::{Format, NoMemory, PixelFormat, Props, Ratio, Shape, TimeBase, VideoProps};
-use av_frame::{Edit, Frame, Kernel, Pools, check_shape, paint};
+use av_filter::check_shape;
+use av_frame::{Edit, Frame, Kernel, Pools, paint};
 use std::alloc::Global;
 
 /// The pts of each picture.

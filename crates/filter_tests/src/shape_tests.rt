@@ -1,5 +1,5 @@
 //! Formats that filters take, and the shapes of what they give.
-ghost use Rattle.av_frame.specs.Limits.{IsPictureShape};
+ghost use Rattle.av_base.specs.Shapes.{IsPictureShape};
 
 use crate::calls::{Answer, answer_to, read};
 use crate::pictures::{Input, shape_of, shape_with};

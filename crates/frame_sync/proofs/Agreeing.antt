@@ -8,9 +8,9 @@ use Rattle.frame_sync.specs.declared.rules.Rule.{Rule}
 use Rattle.frame_sync.specs.declared.rules.Before.TheVariants as before
 use Rattle.frame_sync.specs.declared.rules.After.TheVariants as after
 use Rattle.frame_sync.specs.Framesync.{Input, SomeOne, EachOne, IsRising, HasAt, HasFrom, HasUpTo, IsSettled, IsEvent, IsGone, IsLast, IsCurrent}
+use Rattle.av_base.proofs.Lists.{append_get_left, append_get}
 use Rattle.frame_sync.specs.Lanes.{AreEach}
 use Rattle.frame_sync.specs.Laws.{BeginsInput, BeginInputs}
-use Rattle.frame_sync.proofs.Pushes.{in_front, of_parts}
 use Rattle.frame_sync.proofs.Along.{some_along, each_along, each_so}
 
 -- every open input has a frame at or after the time
@@ -23,7 +23,7 @@ from_before i t u le h = (h.0, h.1, h.2, let a : t ≤ℤ h.1 = h.3 in omega (ar
 pub reached_before : (inputs : List Input) (t u : ℤ) → u ≤ℤ t → AreReached inputs t → AreReached inputs u
 reached_before inputs t u le h k i e is_open = from_before i t u le (h k i e is_open)
 
--- two inputs say the same of a time
+-- two inputs agree at a time
 pub record Agree (u : ℤ) (i j : Input) : Type 0 where
   pub rule : i.rule ≡ j.rule
   pub at : HasAt i u → HasAt j u
@@ -35,17 +35,17 @@ pub record Agree (u : ℤ) (i j : Input) : Type 0 where
 
 -- a frame of the first is one of the second
 pub kept : {i j : Input} → BeginsInput i j → (n : ℕ) (u : ℤ) → slice_get i.times n ≡ Some u → slice_get j.times n ≡ Some u
-kept {i} {j} b n u e = subst (λ (ts : List ℤ). slice_get ts n ≡ Some u) (sym b.times.1) (in_front i.times b.times.0 n u e)
+kept {i} {j} b n u e = subst (λ (ts : List ℤ). slice_get ts n ≡ Some u) (sym b.times.1) (append_get_left i.times b.times.0 n u e)
 
 pub kept_some : {i j : Input} (P : ℤ → Type 0) → BeginsInput i j → SomeOne i.times P → SomeOne j.times P
 kept_some P b h = (h.0, h.1, kept b h.0 h.1 h.2, h.3)
 
--- a frame of the second is one of the first, or the first is open and it comes behind all of that
+-- a frame of the second is one of the first, or the first is open and it comes after all of that
 pub kept_back : {i j : Input} → BeginsInput i j → IsRising j.times → (n : ℕ) (u : ℤ) → slice_get j.times n ≡ Some u
     → (slice_get i.times n ≡ Some u) ⊎ ((i.ended ≡ false) × EachOne i.times (λ v. v <ℤ u))
 kept_back {i} {j} b rising n u e = elim (cases_Bool i.ended) [
   | inl shut ↦ inl (subst (λ (ts : List ℤ). slice_get ts n ≡ Some u) (sym (b.ended shut).1) e)
-  | inr is_open ↦ elim (of_parts i.times b.times.0 n u (subst (λ (ts : List ℤ). slice_get ts n ≡ Some u) b.times.1 e)) [
+  | inr is_open ↦ elim (append_get i.times b.times.0 n u (subst (λ (ts : List ℤ). slice_get ts n ≡ Some u) b.times.1 e)) [
     | inl here ↦ inl here
     | inr more ↦ inr (is_open, λ m v f. rising m n v u (let lt = slice_get_within i.times m v f in let place = more.1 in omega arith) (kept b m v f) e)
   ]
@@ -73,7 +73,7 @@ all_agree u h reached = each_so h.each (λ k i j e f begins. agree u begins (h.r
 
 -- ---- what agrees has the same events
 
--- where the open ones of the second are reached too
+-- if the open ones of the second have a frame at or after the time too
 pub event_along : {a b : List Input} (u : ℤ) → AreEach (Agree u) a b → AreReached b u → IsEvent a u → IsEvent b u
 event_along u h reached e = record {
   settled = record { here = some_along (λ (i : Input). HasAt i u) (λ (i : Input). HasAt i u) h (λ i j g. g.at) e.settled.here; ahead = reached };

@@ -1,15 +1,11 @@
 -- What is so of some or each of two lists that are related one by one.
-use Rattle.std.proofs.Common.{◌≡◌, ◌<◌, ◌<ℤ◌, ◌≤ℤ◌, ◌⊎◌, ℕ, zero, suc, ℤ, List, [], ◌∷◌, Some, length, refl, arith, inl, inr}
+use Rattle.std.proofs.Common.{◌≡◌, ◌<ℤ◌, ◌≤ℤ◌, ◌⊎◌, ℕ, ℤ, List, Some, arith, inl, inr}
 use Rattle.std.specs.List.{slice_get}
 use Rattle.std.proofs.lemmas.Int.{by_lt_z}
 use Rattle.std.proofs.lemmas.Option.{slice_get_within}
+use Rattle.av_base.proofs.Lists.{get_within}
 use Rattle.frame_sync.specs.Framesync.{SomeOne, EachOne}
 use Rattle.frame_sync.specs.Lanes.{AreEach}
-
-pub get_within : {X : Type 0} (xs : List X) (k : ℕ) → k < length xs → (x : X) × (slice_get xs k ≡ Some x)
-get_within [] k h = absurd (omega arith)
-get_within (x ∷ xs) zero h = (x, refl)
-get_within (x ∷ xs) (suc k) h = get_within xs k (omega arith)
 
 -- the one at the same place
 pub partner : {X Y : Type 0} {R : X → Y → Type 0} {xs : List X} {ys : List Y} → AreEach R xs ys → (k : ℕ) (x : X) → slice_get xs k ≡ Some x → (y : Y) × (slice_get ys k ≡ Some y) × R x y

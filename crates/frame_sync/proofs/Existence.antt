@@ -8,8 +8,9 @@ use Rattle.frame_sync.specs.declared.rules.Before.TheVariants as before
 use Rattle.frame_sync.specs.declared.rules.After.{After}
 use Rattle.frame_sync.specs.declared.rules.After.TheVariants as after
 use Rattle.frame_sync.specs.Framesync.{Input, SomeOne, EachOne, IsRising, HasAt, HasFrom, IsEvent, AreEvents}
+use Rattle.av_base.proofs.Lists.{append_get_left}
 use Rattle.frame_sync.specs.SlowEvents.{Allows, IsBelow, IsMet}
-use Rattle.frame_sync.proofs.Pushes.{rising_none, in_front}
+use Rattle.frame_sync.proofs.Pushes.{rising_none}
 use Rattle.frame_sync.proofs.Rising.{Has}
 use Rattle.frame_sync.proofs.Along.{cases_ltz}
 use Rattle.frame_sync.proofs.SlowLemmas.{event_is, event_met, event_allowed}
@@ -149,8 +150,8 @@ adds_none t ts r here = record {
   only = λ u h. inl h;
 }
 
-adds_behind : (t x : ℤ) (ts : List ℤ) → IsRising (x ∷ ts) → x <ℤ t → Adds t ts → Adds t (x ∷ ts)
-adds_behind t x ts r lt a = record {
+adds_after : (t x : ℤ) (ts : List ℤ) → IsRising (x ∷ ts) → x <ℤ t → Adds t ts → Adds t (x ∷ ts)
+adds_after t x ts r lt a = record {
   all = x ∷ a.all;
   rising = rising_cons x a.all (λ k u e. elim (a.only u (k, u, e, refl)) [
     | inl old ↦ (let p : x <ℤ old.1 = r 0 (suc old.0) x old.1 (omega arith) refl old.2 in let q : old.1 ≡ u = old.3 in omega (arith, ints))
@@ -169,7 +170,7 @@ adds_behind t x ts r lt a = record {
 add_time : (t : ℤ) (ts : List ℤ) → IsRising ts → Adds t ts
 add_time t [] r = adds_first t [] r (λ k u e. absurd (none-some u e))
 add_time t (x ∷ ts) r = elim (cases_ltz x t) [
-  | inl behind ↦ adds_behind t x ts r behind (add_time t ts (rising_rest x ts r))
+  | inl after ↦ adds_after t x ts r after (add_time t ts (rising_rest x ts r))
   | inr le ↦ elim (cases_ltz t x) [
     | inl first ↦ adds_first t (x ∷ ts) r (each_cons (λ (u : ℤ). t <ℤ u) x ts first (λ k u e. let p : x <ℤ u = r 0 (suc k) x u (omega arith) refl e in omega (arith, ints)))
     | inr ge ↦ adds_none t (x ∷ ts) r (has_first x ts t (omega (arith, ints)))
@@ -214,7 +215,7 @@ all_times [] = []
 all_times (i ∷ is) = i.times ++ all_times is
 
 has_left : (xs ys : List ℤ) (u : ℤ) → Has xs u → Has (xs ++ ys) u
-has_left xs ys u h = (h.0, h.1, in_front xs ys h.0 h.1 h.2, h.3)
+has_left xs ys u h = (h.0, h.1, append_get_left xs ys h.0 h.1 h.2, h.3)
 
 has_right : (xs ys : List ℤ) (u : ℤ) → Has ys u → Has (xs ++ ys) u
 has_right [] ys u h = h

@@ -1,21 +1,21 @@
--- A timeline goes on standing for its histories where an input gets a time, or ends.
+-- A timeline still represents its histories after an input gets a time, or ends.
 use Rattle.std.proofs.Common.{◌≡◌, ◌<◌, ◌≤◌, ◌<ℤ◌, ◌≤ℤ◌, ◌+◌, ◌++◌, ◌∙◌, ◌^◌, ℕ, zero, suc, ℤ, negsuc, true, false, List, [], ◌∷◌, Option, Some, None, map, length, take, set, get_or, refl, sym, subst, ap, arith, inl, inr, append_assoc, w64}
 use mir.Val.{SFits}
 use Rattle.std.specs.Prelude.{IfSome}
 use Rattle.std.specs.List.{slice_get}
 use Rattle.std.proofs.lemmas.Bool.{cases_eq}
 use Rattle.std.proofs.lemmas.Int.{ints}
-use Rattle.std.proofs.lemmas.List.{length-set, length_push, append-nil, take_more, take_all}
+use Rattle.std.proofs.lemmas.List.{length-set, length-map, length_push, append-nil, take_more, take_all}
 use Rattle.std.proofs.lemmas.Option.{same_Some, none-some, slice_get_within}
 use Rattle.frame_sync.specs.declared.rules.Rule.{Rule}
 use Rattle.frame_sync.specs.declared.stamp.Stamp.{Stamp}
 use Rattle.frame_sync.specs.Framesync.{Input, SomeOne, EachOne, HasAt, IsCurrent}
+use Rattle.av_base.proofs.Lists.{pushed_at, pushed_last, get_set_same, get_set_other}
 use Rattle.frame_sync.specs.Histories.{History, fresh, changed_at, pushed, ended}
 use Rattle.frame_sync.specs.Lanes.{LaneValue, AreEach, IsOpen, IsPast, IsPastAt}
 use Rattle.frame_sync.specs.Laws.{BeginsInput, BeginInputs}
-use Rattle.frame_sync.specs.Timelines.{IsLatest, Keeps, StandsFor}
-use Rattle.frame_sync.proofs.Pushes.{pushed_at, last_at, rising_more, rising_none}
-use Rattle.frame_sync.proofs.Changes.{set_here, set_apart}
+use Rattle.frame_sync.specs.Timelines.{IsLatest, Keeps, Represents}
+use Rattle.frame_sync.proofs.Pushes.{rising_more, rising_none}
 use Rattle.frame_sync.proofs.Along.{partner, partner_back}
 use Rattle.frame_sync.proofs.Agreeing.{settled_along, event_grows, event_shrinks, current_grows, still_open, kept}
 use Rattle.frame_sync.proofs.Keeping.{frame_cases, waiting_frame, up_to_latest}
@@ -45,9 +45,9 @@ changed_apart f (suc k) (x ∷ xs) (suc j) h = changed_apart f k xs j (λ e. h (
 abbrev pub BringsNothing : ℤ → List Input → List Input → Type 0
 BringsNothing clock a b = (u : ℤ) → SomeOne b (λ (i : Input). HasAt i u) → u ≤ℤ clock → SomeOne a (λ (i : Input). HasAt i u)
 
-stands_grown : {lanes new : List LaneValue} {h : History} {b : List Input} (s : StandsFor lanes h) → AreEach (Keeps s.clock) new b → AreEach (λ (l m : LaneValue). m.current ≡ l.current) lanes new
-    → BeginInputs h.inputs b → BringsNothing s.clock h.inputs b → StandsFor new (record h { inputs = b })
-stands_grown {lanes} {new} {h} {b} s keeps same grows nothing = record {
+represents_grown : {lanes new : List LaneValue} {h : History} {b : List Input} (s : Represents lanes h) → AreEach (Keeps s.clock) new b → AreEach (λ (l m : LaneValue). m.current ≡ l.current) lanes new
+    → BeginInputs h.inputs b → BringsNothing s.clock h.inputs b → Represents new (record h { inputs = b })
+represents_grown {lanes} {new} {h} {b} s keeps same grows nothing = record {
   clock = s.clock;
   keeps = keeps;
   settled = λ u here le. settled_along u grows (s.settled u (nothing u here le) le);
@@ -57,12 +57,14 @@ stands_grown {lanes} {new} {h} {b} s keeps same grows nothing = record {
   rising = s.rising;
   each = λ k u e. (event_grows u grows (s.each k u e).0, (s.each k u e).1);
   all = λ u e le. s.all u (event_shrinks u grows (s.settled u (nothing u e.settled.here le) le).ahead e) le;
-  shows = λ k m e before t is j f.
-      let l = partner_back same k m e in
-      let i = partner_back grows.each k j f in
-      let last : slice_get h.events (length before) ≡ Some t = subst (λ (ts : List ℤ). slice_get ts (length before) ≡ Some t) (sym is) (last_at before t) in
-      let event = (s.each (length before) t last).0 in
-      subst (IsCurrent j t) (sym l.2) (current_grows t l.0.current i.2 (grows.rising k j f) (event.settled.ahead k i.0 i.1) (s.shows k l.0 l.1 before t is i.0 i.1));
+  shows = λ k m e. let l = partner_back same k m e in record {
+    none = λ is. l.2 ∙ (s.shows k l.0 l.1).none is;
+    last = λ before t is j f.
+        let i = partner_back grows.each k j f in
+        let at : slice_get h.events (length before) ≡ Some t = subst (λ (ts : List ℤ). slice_get ts (length before) ≡ Some t) (sym is) (pushed_last before t) in
+        let event = (s.each (length before) t at).0 in
+        subst (IsCurrent j t) (sym l.2) (current_grows t l.0.current i.2 (grows.rising k j f) (event.settled.ahead k i.0 i.1) ((s.shows k l.0 l.1).last before t is i.0 i.1));
+  };
 }
 
 -- one input grew
@@ -75,9 +77,9 @@ pub record Grows (c : ℤ) (l m : LaneValue) (i j : Input) : Type 0 where
 begins_itself : (i : Input) → BeginsInput i i
 begins_itself i = record { rule = refl; times = ([], sym (append-nil i.times)); ended = λ e. (e, refl) }
 
-pub stands_changed : (lanes : List LaneValue) (h : History) (k : ℕ) (l m : LaneValue) (f : Input → Input) (s : StandsFor lanes h) → slice_get lanes k ≡ Some l
-    → ((i : Input) → slice_get h.inputs k ≡ Some i → Keeps s.clock l i → Grows s.clock l m i (f i)) → StandsFor (set lanes k m) (record h { inputs = changed_at f k h.inputs })
-stands_changed lanes h k l m f s at grow = stands_grown s keeps same grows nothing where
+pub represents_changed : (lanes : List LaneValue) (h : History) (k : ℕ) (l m : LaneValue) (f : Input → Input) (s : Represents lanes h) → slice_get lanes k ≡ Some l
+    → ((i : Input) → slice_get h.inputs k ≡ Some i → Keeps s.clock l i → Grows s.clock l m i (f i)) → Represents (set lanes k m) (record h { inputs = changed_at f k h.inputs })
+represents_changed lanes h k l m f s at grow = represents_grown s keeps same grows nothing where
   within : k < length lanes
   within = slice_get_within lanes k l at
 
@@ -91,7 +93,7 @@ stands_changed lanes h k l m f s at grow = stands_grown s keeps same grows nothi
   grown = grow i at_i (partner s.keeps k l at).2
 
   m_is : (n : LaneValue) → slice_get (set lanes k m) k ≡ Some n → m ≡ n
-  m_is n e = same_Some m n (sym (set_here lanes k m within) ∙ e)
+  m_is n e = same_Some m n (sym (get_set_same lanes k m within) ∙ e)
 
   j_is : (j : Input) → slice_get (changed_at f k h.inputs) k ≡ Some j → f i ≡ j
   j_is j e = same_Some (f i) j (sym (changed_here f k h.inputs i at_i) ∙ e)
@@ -105,7 +107,7 @@ stands_changed lanes h k l m f s at grow = stands_grown s keeps same grows nothi
           let at_j = subst (λ (z : ℕ). slice_get (changed_at f k h.inputs) z ≡ Some j) here g in
           subst (λ (z : LaneValue). Keeps s.clock z j) (m_is n at_n) (subst (Keeps s.clock m) (j_is j at_j) grown.keeps)
           )
-      | inr apart ↦ s.keeps.each p n j (sym (set_apart lanes k p m apart) ∙ e) (sym (changed_apart f k h.inputs p apart) ∙ g)
+      | inr apart ↦ s.keeps.each p n j (sym (get_set_other lanes k p m apart) ∙ e) (sym (changed_apart f k h.inputs p apart) ∙ g)
     ];
   }
 
@@ -118,7 +120,7 @@ stands_changed lanes h k l m f s at grow = stands_grown s keeps same grows nothi
           let at_y = m_is y (subst (λ (z : ℕ). slice_get (set lanes k m) z ≡ Some y) here g) in
           ap (λ (z : LaneValue). z.current) (sym at_y) ∙ (grown.same ∙ ap (λ (z : LaneValue). z.current) at_x)
           )
-      | inr apart ↦ ap (λ (z : LaneValue). z.current) (same_Some y x (sym g ∙ (set_apart lanes k p m apart ∙ e)))
+      | inr apart ↦ ap (λ (z : LaneValue). z.current) (same_Some y x (sym g ∙ (get_set_other lanes k p m apart ∙ e)))
     ];
   }
 
@@ -168,7 +170,7 @@ grows_by c t l i h is_open past after = record {
     passed = h.passed;
     times = ap (λ (ts : List ℤ). ts ++ t ∷ []) h.times ∙ append_assoc h.passed l.waiting (t ∷ []);
     latest = h.latest;
-    behind = h.behind;
+    reached = h.reached;
     ahead = λ k u e. elim (pushed_at l.waiting t k u e) [ inl a ↦ h.ahead k u a | inr a ↦ subst (λ (z : ℤ). c <ℤ z) (sym a.1) after ];
   };
   same = refl;
@@ -179,17 +181,17 @@ grows_by c t l i h is_open past after = record {
   ];
 }
 
-pub stands_pushed : (lanes : List LaneValue) (h : History) (k : ℕ) (t : ℤ) (l : LaneValue) → slice_get lanes k ≡ Some l → l.ended ≡ false → IsPast l t → SFits w64 t → StandsFor lanes h
-    → StandsFor (set lanes k (record l { waiting = l.waiting ++ t ∷ [] })) (pushed k t h)
-stands_pushed lanes h k t l at is_open past fits s = stands_changed lanes h k l (record l { waiting = l.waiting ++ t ∷ [] }) (λ (i : Input). record i { times = i.times ++ t ∷ [] }) s at
+pub represents_pushed : (lanes : List LaneValue) (h : History) (k : ℕ) (t : ℤ) (l : LaneValue) → slice_get lanes k ≡ Some l → l.ended ≡ false → IsPast l t → SFits w64 t → Represents lanes h
+    → Represents (set lanes k (record l { waiting = l.waiting ++ t ∷ [] })) (pushed k t h)
+represents_pushed lanes h k t l at is_open past fits s = represents_changed lanes h k l (record l { waiting = l.waiting ++ t ∷ [] }) (λ (i : Input). record i { times = i.times ++ t ∷ [] }) s at
     (λ i at_i keeps.
     let still : i.ended ≡ false = sym keeps.ended ∙ is_open in
     grows_by s.clock t l i keeps still past (s.coming k i at_i still t (omega (arith, ints), all_past t keeps past)))
 
 -- ---- an input ends
 
-pub stands_ended : (lanes : List LaneValue) (h : History) (k : ℕ) (l : LaneValue) → slice_get lanes k ≡ Some l → StandsFor lanes h → StandsFor (set lanes k (record l { ended = true })) (ended k h)
-stands_ended lanes h k l at s = stands_changed lanes h k l (record l { ended = true }) (λ (i : Input). record i { ended = true }) s at
+pub represents_ended : (lanes : List LaneValue) (h : History) (k : ℕ) (l : LaneValue) → slice_get lanes k ≡ Some l → Represents lanes h → Represents (set lanes k (record l { ended = true })) (ended k h)
+represents_ended lanes h k l at s = represents_changed lanes h k l (record l { ended = true }) (λ (i : Input). record i { ended = true }) s at
     (λ i at_i keeps. record {
       keeps = record {
         rule = keeps.rule;
@@ -198,7 +200,7 @@ stands_ended lanes h k l at s = stands_changed lanes h k l (record l { ended = t
         passed = keeps.passed;
         times = keeps.times;
         latest = keeps.latest;
-        behind = keeps.behind;
+        reached = keeps.reached;
         ahead = keeps.ahead;
       };
       same = refl;
@@ -256,10 +258,6 @@ no_time rules t here =
     let at = here.3 in
     none-some at.1 (subst (λ (z : Input). slice_get z.times at.0 ≡ Some at.1) (sym r.2) at.2)
 
-length-map : {X Y : Type 0} (f : X → Y) (xs : List X) → length (map f xs) ≡ length xs
-length-map f [] = refl
-length-map f (x ∷ xs) = ap suc (length-map f xs)
-
 fresh_kept : (c : ℤ) (r : Rule) → Keeps c (record { rule = r; latest = None; waiting = []; ended = false; current = None }) (fresh_input r)
 fresh_kept c r = record {
   rule = refl;
@@ -268,15 +266,15 @@ fresh_kept c r = record {
   passed = [];
   times = refl;
   latest = refl;
-  behind = λ k t e. absurd (none-some t e);
+  reached = λ k t e. absurd (none-some t e);
   ahead = λ k t e. absurd (none-some t e);
 }
 
-pub stands_fresh : (lanes : List LaneValue) (rules : List Rule) → AreEach IsFresh lanes rules → StandsFor lanes (fresh rules)
-stands_fresh lanes rules h = record {
+pub represents_fresh : (lanes : List LaneValue) (rules : List Rule) → AreEach IsFresh lanes rules → Represents lanes (fresh rules)
+represents_fresh lanes rules h = record {
   clock = negsuc (2 ^ 63);
   keeps = record {
-    same = h.same ∙ sym (length-map (λ (r : Rule). fresh_input r) rules);
+    same = h.same ∙ sym (length-map rules (λ (r : Rule). fresh_input r));
     each = λ k l i e f.
         let r = fresh_at rules k i f in
         subst (Keeps (negsuc (2 ^ 63)) l) r.2 (subst (λ (z : LaneValue). Keeps (negsuc (2 ^ 63)) z (fresh_input r.0)) (sym (h.each k l r.0 e r.1)) (fresh_kept (negsuc (2 ^ 63)) r.0));
@@ -286,12 +284,15 @@ stands_fresh lanes rules h = record {
   rising = rising_none;
   each = λ k t e. absurd (none-some t e);
   all = λ t e le. absurd (no_time rules t e.settled.here);
-  shows = λ k l e before t is. absurd (let a = ap (λ (ts : List ℤ). length ts) is in let b = length_push before t in omega arith);
+  shows = λ k l e. record {
+    none = λ _. let r = partner h k l e in ap (λ (z : LaneValue). z.current) r.2;
+    last = λ before t is. absurd (let a = ap (λ (ts : List ℤ). length ts) is in let b = length_push before t in omega arith);
+  };
 }
 
--- ---- what a call asks of the timeline stands in each history
+-- ---- what a call requires of the timeline can be seen in each history
 
-pub asks_pushed : (lanes : List LaneValue) (h : History) (k : ℕ) (i : Input) (t : ℤ) → StandsFor lanes h → slice_get h.inputs k ≡ Some i → i.ended ≡ false → EachOne i.times (λ (u : ℤ). u <ℤ t) → IsOpen lanes k × IsPastAt lanes k t
+pub asks_pushed : (lanes : List LaneValue) (h : History) (k : ℕ) (i : Input) (t : ℤ) → Represents lanes h → slice_get h.inputs k ≡ Some i → i.ended ≡ false → EachOne i.times (λ (u : ℤ). u <ℤ t) → IsOpen lanes k × IsPastAt lanes k t
 asks_pushed lanes h k i t s at is_open past =
     let l = partner_back s.keeps k i at in
     ((l.0, l.1, l.2.ended ∙ is_open), λ m e. subst (λ (z : LaneValue). IsPast z t) (same_Some l.0 m (sym l.1 ∙ e)) (lane_past l.2 past))

@@ -1,4 +1,4 @@
--- What is kept of an input says all of it that a turn needs.
+-- What is kept of an input determines all that a turn needs.
 use Rattle.std.proofs.Common.{◌≡◌, ◌≢◌, ◌<◌, ◌<ℤ◌, ◌≤ℤ◌, ◌+◌, ◌++◌, ◌∙◌, ◌⊎◌, ℕ, zero, suc, ℤ, List, [], ◌∷◌, Option, Some, None, length, refl, sym, subst, ap, arith, inl, inr, append_assoc}
 use Rattle.std.specs.Prelude.{IfSome}
 use Rattle.std.specs.List.{slice_get}
@@ -9,21 +9,21 @@ use Rattle.std.proofs.lemmas.Option.{same_Some, none-some, slice_get_within}
 use Rattle.frame_sync.specs.declared.rules.Rule.{Rule}
 use Rattle.frame_sync.specs.declared.stamp.Stamp.{Stamp}
 use Rattle.frame_sync.specs.Framesync.{Input, SomeOne, EachOne, IsRising, HasAt, HasFrom, HasUpTo, IsGone, IsCurrent}
+use Rattle.av_base.proofs.Lists.{append_get_left, append_get, pushed_last, pushed_at}
 use Rattle.frame_sync.specs.Lanes.{LaneValue, Heads, HasBegun, Passes, HasLeft, IsCurrentOf, next_number}
 use Rattle.frame_sync.specs.Timelines.{IsLatest, Keeps}
-use Rattle.frame_sync.proofs.Pushes.{in_front, of_parts, last_at, pushed_at}
 use Rattle.frame_sync.proofs.Along.{cases_ltz}
 use Rattle.frame_sync.proofs.Searches.{something_waits}
 
 -- ---- where a frame is
 
--- an item of the second part stands behind the first
+-- an item of the second part comes after the first
 second_at : {X : Type 0} (xs ys : List X) (k : ℕ) (y : X) → slice_get ys k ≡ Some y → slice_get (xs ++ ys) (length xs + k) ≡ Some y
 second_at {X} [] ys k y e = subst (λ (n : ℕ). slice_get ys n ≡ Some y) (omega arith) e
 second_at {X} (x ∷ xs) ys k y e = subst (λ (n : ℕ). slice_get ((x ∷ xs) ++ ys) n ≡ Some y) (let z : suc (length xs + k) ≡ length (x ∷ xs) + k = omega arith in z) (second_at xs ys k y e)
 
 pub passed_frame : {c : ℤ} {l : LaneValue} {i : Input} (h : Keeps c l i) (k : ℕ) (u : ℤ) → slice_get h.passed k ≡ Some u → slice_get i.times k ≡ Some u
-passed_frame {c} {l} {i} h k u e = subst (λ (ts : List ℤ). slice_get ts k ≡ Some u) (sym h.times) (in_front h.passed l.waiting k u e)
+passed_frame {c} {l} {i} h k u e = subst (λ (ts : List ℤ). slice_get ts k ≡ Some u) (sym h.times) (append_get_left h.passed l.waiting k u e)
 
 pub waiting_frame : {c : ℤ} {l : LaneValue} {i : Input} (h : Keeps c l i) (k : ℕ) (u : ℤ) → slice_get l.waiting k ≡ Some u → slice_get i.times (length h.passed + k) ≡ Some u
 waiting_frame {c} {l} {i} h k u e = subst (λ (ts : List ℤ). slice_get ts (length h.passed + k) ≡ Some u) (sym h.times) (second_at h.passed l.waiting k u e)
@@ -31,24 +31,24 @@ waiting_frame {c} {l} {i} h k u e = subst (λ (ts : List ℤ). slice_get ts (len
 -- a frame was passed, or it waits
 pub frame_cases : {c : ℤ} {l : LaneValue} {i : Input} (h : Keeps c l i) (n : ℕ) (u : ℤ) → slice_get i.times n ≡ Some u
     → (slice_get h.passed n ≡ Some u) ⊎ ((k : ℕ) × (n ≡ length h.passed + k) × (slice_get l.waiting k ≡ Some u))
-frame_cases {c} {l} {i} h n u e = of_parts h.passed l.waiting n u (subst (λ (ts : List ℤ). slice_get ts n ≡ Some u) h.times e)
+frame_cases {c} {l} {i} h n u e = append_get h.passed l.waiting n u (subst (λ (ts : List ℤ). slice_get ts n ≡ Some u) h.times e)
 
--- a frame behind the clock waits
+-- a frame after the clock waits
 pub frame_waits : {c : ℤ} {l : LaneValue} {i : Input} (h : Keeps c l i) (n : ℕ) (u : ℤ) → slice_get i.times n ≡ Some u → c <ℤ u → (k : ℕ) × (slice_get l.waiting k ≡ Some u)
-frame_waits h n u e lt = elim (frame_cases h n u e) [ inl was ↦ absurd (let p = h.behind n u was in omega (arith, ints)) | inr waits ↦ (waits.0, waits.2) ]
+frame_waits h n u e lt = elim (frame_cases h n u e) [ inl was ↦ absurd (let p = h.reached n u was in omega (arith, ints)) | inr waits ↦ (waits.0, waits.2) ]
 
 -- what waits rises
 pub waiting_rises : {c : ℤ} {l : LaneValue} {i : Input} → Keeps c l i → IsRising l.waiting
 waiting_rises h m n t u lt e f = h.rising (length h.passed + m) (length h.passed + n) t u (omega arith) (waiting_frame h m t e) (waiting_frame h n u f)
 
--- the first that waits is the least
-pub head_least : {c : ℤ} {l : LaneValue} {i : Input} → Keeps c l i → (k : ℕ) (u : ℤ) → slice_get l.waiting k ≡ Some u → (v : ℤ) × Heads l v × (v ≤ℤ u)
-head_least h zero u e = (u, e, omega (arith, ints))
-head_least {c} {l} {i} h (suc k) u e =
+-- the first that waits is the earliest
+pub head_is_earliest : {c : ℤ} {l : LaneValue} {i : Input} → Keeps c l i → (k : ℕ) (u : ℤ) → slice_get l.waiting k ≡ Some u → (v : ℤ) × Heads l v × (v ≤ℤ u)
+head_is_earliest h zero u e = (u, e, omega (arith, ints))
+head_is_earliest {c} {l} {i} h (suc k) u e =
     let first = something_waits l.waiting (λ none. none-some u (subst (λ (ts : List ℤ). slice_get ts (suc k) ≡ Some u) none e)) in
     (first.0, first.1, let p : first.0 <ℤ u = waiting_rises h 0 (suc k) first.0 u (omega arith) first.1 e in omega (arith, ints))
 
--- ---- what a lane says of the least time that waits anywhere
+-- ---- what a lane shows of the earliest time that waits anywhere
 
 pub record Meets (t : ℤ) (l : LaneValue) (i : Input) : Type 0 where
   pub rule : l.rule ≡ i.rule
@@ -62,34 +62,34 @@ pub record Meets (t : ℤ) (l : LaneValue) (i : Input) : Type 0 where
 
 passed_some : (passed : List ℤ) (latest : Option Stamp) → IsLatest passed latest → latest ≢ None → SomeOne passed (λ (u : ℤ). ℕ)
 passed_some passed None is some = absurd (some refl)
-passed_some passed (Some s) is some = (length is.0, s.pts, subst (λ (ts : List ℤ). slice_get ts (length is.0) ≡ Some s.pts) (sym is.1) (last_at is.0 s.pts), 0)
+passed_some passed (Some s) is some = (length is.0, s.pts, subst (λ (ts : List ℤ). slice_get ts (length is.0) ≡ Some s.pts) (sym is.1) (pushed_last is.0 s.pts), 0)
 
 latest_some : (passed : List ℤ) (latest : Option Stamp) (k : ℕ) (u : ℤ) → IsLatest passed latest → slice_get passed k ≡ Some u → latest ≢ None
 latest_some passed None k u is e none = none-some u (subst (λ (ts : List ℤ). slice_get ts k ≡ Some u) is e)
 latest_some passed (Some s) k u is e none = none-some s (sym none)
 
 pub meets : {c : ℤ} {l : LaneValue} {i : Input} (t : ℤ) → Keeps c l i → c <ℤ t → ((u : ℤ) → Heads l u → t ≤ℤ u) → Meets t l i
-meets {c} {l} {i} t h after least = record {
+meets {c} {l} {i} t h after earliest = record {
   rule = h.rule;
   ended = h.ended;
   heads = λ at.
       let w = frame_waits h at.0 at.1 at.2 (let p : at.1 ≡ t = at.3 in omega (arith, ints)) in
-      let first = head_least h w.0 at.1 w.1 in
-      subst (λ (z : ℤ). Heads l z) (let p : first.0 ≤ℤ at.1 = first.2 in let q : t ≤ℤ first.0 = least first.0 first.1 in let r : at.1 ≡ t = at.3 in omega (arith, ints)) first.1;
+      let first = head_is_earliest h w.0 at.1 w.1 in
+      subst (λ (z : ℤ). Heads l z) (let p : first.0 ≤ℤ at.1 = first.2 in let q : t ≤ℤ first.0 = earliest first.0 first.1 in let r : at.1 ≡ t = at.3 in omega (arith, ints)) first.1;
   at = λ head. (length h.passed + 0, t, waiting_frame h 0 t head, refl);
   waits = λ from none.
       let w = frame_waits h from.0 from.1 from.2 (let p : t ≤ℤ from.1 = from.3 in omega (arith, ints)) in
       none-some from.1 (subst (λ (ts : List ℤ). slice_get ts w.0 ≡ Some from.1) none w.1);
-  from = λ some. let first = something_waits l.waiting some in (length h.passed + 0, first.0, waiting_frame h 0 first.0 first.1, least first.0 first.1);
+  from = λ some. let first = something_waits l.waiting some in (length h.passed + 0, first.0, waiting_frame h 0 first.0 first.1, earliest first.0 first.1);
   begun = λ up. elim (frame_cases h up.0 up.1 up.2) [
     | inl was ↦ inl (latest_some h.passed l.latest up.0 up.1 h.latest was)
     | inr w ↦ (
-        let first = head_least h w.0 up.1 w.2 in
-        inr (subst (λ (z : ℤ). Heads l z) (let p : first.0 ≤ℤ up.1 = first.2 in let q : t ≤ℤ first.0 = least first.0 first.1 in let r : up.1 ≤ℤ t = up.3 in omega (arith, ints)) first.1)
+        let first = head_is_earliest h w.0 up.1 w.2 in
+        inr (subst (λ (z : ℤ). Heads l z) (let p : first.0 ≤ℤ up.1 = first.2 in let q : t ≤ℤ first.0 = earliest first.0 first.1 in let r : up.1 ≤ℤ t = up.3 in omega (arith, ints)) first.1)
         )
   ];
   up_to = λ begun. elim begun [
-    | inl some ↦ (let p = passed_some h.passed l.latest h.latest some in (p.0, p.1, passed_frame h p.0 p.1 p.2, let q : p.1 ≤ℤ c = h.behind p.0 p.1 p.2 in omega (arith, ints)))
+    | inl some ↦ (let p = passed_some h.passed l.latest h.latest some in (p.0, p.1, passed_frame h p.0 p.1 p.2, let q : p.1 ≤ℤ c = h.reached p.0 p.1 p.2 in omega (arith, ints)))
     | inr head ↦ (length h.passed + 0, t, waiting_frame h 0 t head, omega (arith, ints))
   ];
 }
@@ -101,7 +101,7 @@ next_is_length passed None is = ap (λ (ts : List ℤ). length ts) (sym is)
 next_is_length passed (Some s) is = let a = length_push is.0 s.pts in let b = ap (λ (ts : List ℤ). length ts) is.1 in let c = is.2 in omega arith
 
 pub keeps_passed : {c : ℤ} {l m : LaneValue} {i : Input} (t : ℤ) → Keeps c l i → c <ℤ t → ((u : ℤ) → Heads l u → t ≤ℤ u) → Passes l t m → Keeps t m i
-keeps_passed {c} {l} {m} {i} t h after least p = elim p [
+keeps_passed {c} {l} {m} {i} t h after earliest p = elim p [
   | inl q ↦ subst (λ (z : LaneValue). Keeps t z i) (sym q.1) (record {
     rule = h.rule;
     ended = h.ended;
@@ -109,8 +109,8 @@ keeps_passed {c} {l} {m} {i} t h after least p = elim p [
     passed = h.passed ++ t ∷ [];
     times = rw append_assoc (h.times ∙ ap (λ (ts : List ℤ). h.passed ++ ts) q.0);
     latest = (h.passed, refl, next_is_length h.passed l.latest h.latest);
-    behind = λ k u e. elim (pushed_at h.passed t k u e) [
-      | inl was ↦ (let a = h.behind k u was in omega (arith, ints))
+    reached = λ k u e. elim (pushed_at h.passed t k u e) [
+      | inl was ↦ (let a = h.reached k u was in omega (arith, ints))
       | inr last ↦ (let a : u ≡ t = last.1 in omega (arith, ints))
     ];
     ahead = λ k u e. waiting_rises h 0 (suc k) t u (omega arith) (ap (λ (ts : List ℤ). slice_get ts 0) q.0) (ap (λ (ts : List ℤ). slice_get ts (suc k)) q.0 ∙ e);
@@ -122,12 +122,12 @@ keeps_passed {c} {l} {m} {i} t h after least p = elim p [
     passed = h.passed;
     times = h.times;
     latest = h.latest;
-    behind = λ k u e. let a = h.behind k u e in omega (arith, ints);
+    reached = λ k u e. let a = h.reached k u e in omega (arith, ints);
     ahead = λ k u e.
-        let first = head_least h k u e in
+        let first = head_is_earliest h k u e in
         elim (cases_ltz t first.0) [
           | inl lt ↦ (let a : first.0 ≤ℤ u = first.2 in omega (arith, ints))
-          | inr le ↦ absurd (q.0 (subst (λ (z : ℤ). Heads l z) (let a : t ≤ℤ first.0 = least first.0 first.1 in omega (arith, ints)) first.1))
+          | inr le ↦ absurd (q.0 (subst (λ (z : ℤ). Heads l z) (let a : t ≤ℤ first.0 = earliest first.0 first.1 in omega (arith, ints)) first.1))
         ];
   })
 ]
@@ -142,7 +142,7 @@ waits_none (t ∷ ts) f = absurd (f 0 t refl)
 pub up_to_latest : {c : ℤ} {l : LaneValue} {i : Input} (h : Keeps c l i) (s : Stamp) → l.latest ≡ Some s → (slice_get i.times s.number ≡ Some s.pts) × EachOne h.passed (λ (u : ℤ). u ≤ℤ s.pts) × (length h.passed ≡ s.number + 1)
 up_to_latest {c} {l} {i} h s e =
     let is : IsLatest h.passed (Some s) = subst (IsLatest h.passed) e h.latest in
-    let last : slice_get h.passed (length is.0) ≡ Some s.pts = subst (λ (ts : List ℤ). slice_get ts (length is.0) ≡ Some s.pts) (sym is.1) (last_at is.0 s.pts) in
+    let last : slice_get h.passed (length is.0) ≡ Some s.pts = subst (λ (ts : List ℤ). slice_get ts (length is.0) ≡ Some s.pts) (sym is.1) (pushed_last is.0 s.pts) in
     let many : length h.passed ≡ length is.0 + 1 = ap (λ (ts : List ℤ). length ts) is.1 ∙ length_push is.0 s.pts in (
       subst (λ (n : ℕ). slice_get i.times n ≡ Some s.pts) (sym is.2) (passed_frame h (length is.0) s.pts last),
       (λ k u f. elim (cases_lt k (length is.0)) [
@@ -206,7 +206,7 @@ current_is {t} {l} {i} (Some n) h is = (
 
   at_most : s.pts ≤ℤ t
   at_most = let last = up_to_latest h s is.0.1 in elim (frame_cases h s.number s.pts last.0) [
-    | inl was ↦ h.behind s.number s.pts was
+    | inl was ↦ h.reached s.number s.pts was
     | inr w ↦ absurd (let a = w.1 in let b = last.2 in omega arith)
   ]
 

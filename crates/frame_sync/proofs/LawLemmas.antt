@@ -1,16 +1,18 @@
 -- Laws on events.
-use Rattle.std.proofs.Common.{◌≡◌, ◌<◌, ◌<ℤ◌, ◌≤ℤ◌, ◌++◌, ◌∙◌, ℕ, ℤ, true, List, [], ◌∷◌, Option, Some, None, refl, sym, subst, ap, arith, inl, inr}
+use Rattle.std.proofs.Common.{◌≡◌, ◌<◌, ◌<ℤ◌, ◌≤ℤ◌, ◌++◌, ◌∙◌, ◌⊎◌, ℕ, ℤ, true, List, [], ◌∷◌, Option, Some, None, length, refl, sym, subst, ap, arith, inl, inr}
 use Rattle.std.specs.List.{slice_get}
 use Rattle.std.proofs.lemmas.Bool.{cases_lt}
 use Rattle.std.proofs.lemmas.Int.{ints}
 use Rattle.std.proofs.lemmas.Option.{none-some}
+use Rattle.av_base.proofs.Arithmetic.{first_same}
 use Rattle.frame_sync.specs.declared.rules.Rule.{Rule}
 use Rattle.frame_sync.specs.declared.rules.Step.{Step}
 use Rattle.frame_sync.specs.declared.rules.Step.TheVariants.{Event, Need, Done}
 use Rattle.frame_sync.specs.declared.rules.Before.TheVariants as before
 use Rattle.frame_sync.specs.declared.rules.After.TheVariants as after
-use Rattle.frame_sync.specs.Framesync.{Input, EachOne, IsEvent, AreEvents, BeginEvents, IsLast, IsCurrent, IsOver, HasEnded, NeverBegins, Stops, AllOver, IsLeast}
-use Rattle.frame_sync.specs.Histories.{History, IsNext}
+use Rattle.frame_sync.specs.Framesync.{Input, EachOne, IsEvent, AreEvents, BeginEvents, IsLast, IsCurrent, IsOver, HasEnded, NeverBegins, Stops, AllOver}
+use Rattle.av_base.proofs.Lists.{get_within}
+use Rattle.frame_sync.specs.Histories.{History, IsNext, IsShown}
 use Rattle.frame_sync.specs.Laws.{BeginsList, BeginsInput, BeginInputs, EventsBegin, EventsAreOne}
 use Rattle.frame_sync.proofs.Rising.{Has, begins, one_list, has_last, pushed_has, not_before}
 use Rattle.frame_sync.proofs.Along.{some_along, each_along, partner, partner_back, cases_ltz}
@@ -35,8 +37,8 @@ one_list_of_events inputs xs ys p q = one_list xs ys p.rising q.rising (λ t h. 
 
 -- ---- events of inputs that begin others
 
-pub answered_begin : (a b : List Input) (xs : List ℤ) → BeginInputs a b → BeginEvents a xs → BeginEvents b xs
-answered_begin a b xs h p = record {
+pub returned_begin : (a b : List Input) (xs : List ℤ) → BeginInputs a b → BeginEvents a xs → BeginEvents b xs
+returned_begin a b xs h p = record {
   rising = p.rising;
   each = λ k t e. event_grows t h (p.each k t e);
   first = λ t e g. p.first t (event_shrinks t h (reached_before a g.1 t g.3 (p.each g.0 g.1 g.2).settled.ahead) e) g;
@@ -84,20 +86,14 @@ ended_grows a b h (AllOver s) = AllOver (each_along (λ (i : Input). 0 < i.rule.
 
 pub events_begin : EventsBegin
 events_begin = record {
-  events = λ a b xs ys h p q. begins_events b xs ys (answered_begin a b xs h (events_begin_themselves a xs p)) q;
-  answered = answered_begin;
+  events = λ a b xs ys h p q. begins_events b xs ys (returned_begin a b xs h (events_begin_themselves a xs p)) q;
+  returned = returned_begin;
   all = all_begin;
   ended = ended_grows;
   current = λ a b t h e k i j at_i at_j c is. current_grows t c (h.each.each k i j at_i at_j) (h.rising k j at_j) (e.settled.ahead k i at_i) is;
 }
 
--- ---- one answer
-
-least_same : {P : ℕ → Type 0} {a b : ℕ} → IsLeast P a → IsLeast P b → a ≡ b
-least_same {P} {a} {b} p q = elim (cases_lt a b) [
-  | inl h ↦ absurd (q.least a h p.holds)
-  | inr h ↦ elim (cases_lt b a) [ inl g ↦ absurd (p.least b g q.holds) | inr g ↦ omega arith ]
-]
+-- ---- one result
 
 last_is_event : (inputs : List Input) (xs : List ℤ) (t : ℤ) → BeginEvents inputs (xs ++ t ∷ []) → IsEvent inputs t
 last_is_event inputs xs t p = each_has inputs (xs ++ t ∷ []) t p.each (has_last xs t)
@@ -122,7 +118,7 @@ one_next h (Event t) (Event u) p q = elim (cases_ltz t u) [
 one_next h (Event t) (Need k) p q = absurd (not_more h.inputs h.events t p q.0)
 one_next h (Event t) Done p q = absurd (not_more h.inputs h.events t p q.0)
 one_next h (Need k) (Event t) p q = absurd (not_more h.inputs h.events t q p.0)
-one_next h (Need k) (Need j) p q = ap Need (least_same p.2 q.2)
+one_next h (Need k) (Need j) p q = ap Need (first_same p.2 q.2)
 one_next h (Need k) Done p q = absurd (p.1 q.1)
 one_next h Done (Event t) p q = absurd (not_more h.inputs h.events t q p.0)
 one_next h Done (Need k) p q = absurd (q.1 p.1)
@@ -143,5 +139,27 @@ one_current i t (Some a) (Some b) p q = elim (cases_lt a b) [
   | inr le ↦ elim (cases_lt b a) [ inl lt ↦ absurd (not_later i t b a q.0 p.0 lt) | inr ge ↦ ap (λ (n : ℕ). Some n) (omega arith) ]
 ]
 
+-- a list is empty, or has a last item
+none_or_last : (ts : List ℤ) → (ts ≡ []) ⊎ ((before : List ℤ) × (t : ℤ) × (ts ≡ before ++ t ∷ []))
+none_or_last [] = inl refl
+none_or_last (u ∷ us) = inr (elim (none_or_last us) [
+  | inl none ↦ ([], u, ap (λ (ts : List ℤ). u ∷ ts) none)
+  | inr last ↦ (u ∷ last.0, last.1, ap (λ (ts : List ℤ). u ∷ ts) last.2)
+])
+
+one_shown : (h : History) (k : ℕ) (a b : Option ℕ) → k < length h.inputs → IsShown h k a → IsShown h k b → a ≡ b
+one_shown h k a b within p q = elim (none_or_last h.events) [
+  | inl none ↦ p.none none ∙ sym (q.none none)
+  | inr last ↦ (let i = get_within h.inputs k within in one_current i.0 last.1 a b (p.last last.0 last.1 last.2 i.0 i.1) (q.last last.0 last.1 last.2 i.0 i.1))
+]
+
 pub events_are_one : EventsAreOne
-events_are_one = record { rising = λ inputs xs h. h.rising; some_list = there_are_events; one_list = one_list_of_events; begins = begins_events; one_next = one_next; one_current = one_current }
+events_are_one = record {
+  rising = λ inputs xs h. h.rising;
+  some_list = there_are_events;
+  one_list = one_list_of_events;
+  begins = begins_events;
+  one_next = one_next;
+  one_current = one_current;
+  one_shown = one_shown;
+}

@@ -9,7 +9,7 @@ pub mod Rising
 pub mod LawLemmas
 pub mod Keeping
 pub mod Turning
-pub mod Answering
+pub mod NextResults
 pub mod Growing
 pub mod Lasts
 pub mod SlowLemmas

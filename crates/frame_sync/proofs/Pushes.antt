@@ -1,31 +1,8 @@
 -- Lists that grow at their end.
-use Rattle.std.proofs.Common.{◌≡◌, ◌<ℤ◌, ◌+◌, ◌++◌, ◌⊎◌, ℕ, zero, suc, ℤ, List, [], ◌∷◌, Some, length, refl, sym, subst, ap, arith, inl, inr}
-use Rattle.std.specs.List.{slice_get}
-use Rattle.std.proofs.lemmas.Option.{same_Some, none-some, slice_get_within}
+use Rattle.std.proofs.Common.{◌<ℤ◌, ◌++◌, ℤ, List, [], ◌∷◌, sym, subst, arith, inl, inr}
+use Rattle.std.proofs.lemmas.Option.{none-some, slice_get_within}
+use Rattle.av_base.proofs.Lists.{pushed_at}
 use Rattle.frame_sync.specs.Framesync.{EachOne, IsRising}
-
--- an item of the first part keeps its place
-pub in_front : {X : Type 0} (xs ys : List X) (k : ℕ) (x : X) → slice_get xs k ≡ Some x → slice_get (xs ++ ys) k ≡ Some x
-in_front [] ys k x e = absurd (none-some x e)
-in_front (z ∷ xs) ys zero x e = e
-in_front (z ∷ xs) ys (suc k) x e = in_front xs ys k x e
-
--- an item of two parts is one of the first or of the second
-pub of_parts : {X : Type 0} (xs ys : List X) (k : ℕ) (x : X) → slice_get (xs ++ ys) k ≡ Some x → (slice_get xs k ≡ Some x) ⊎ ((j : ℕ) × (k ≡ length xs + j) × (slice_get ys j ≡ Some x))
-of_parts [] ys k x e = inr (k, omega arith, e)
-of_parts (z ∷ xs) ys zero x e = inl e
-of_parts (z ∷ xs) ys (suc k) x e = elim (of_parts xs ys k x e) [ inl h ↦ inl h | inr h ↦ inr (h.0, (let a = h.1 in omega arith), h.2) ]
-
--- the item of a list that is one longer is one of the list, or the last
-pub pushed_at : {X : Type 0} (xs : List X) (y : X) (k : ℕ) (x : X) → slice_get (xs ++ y ∷ []) k ≡ Some x → (slice_get xs k ≡ Some x) ⊎ ((k ≡ length xs) × (x ≡ y))
-pushed_at [] y zero x e = inr (refl, sym (same_Some y x e))
-pushed_at [] y (suc k) x e = absurd (none-some x e)
-pushed_at (z ∷ xs) y zero x e = inl e
-pushed_at (z ∷ xs) y (suc k) x e = elim (pushed_at xs y k x e) [ inl h ↦ inl h | inr h ↦ inr (ap suc h.0, h.1) ]
-
-pub last_at : {X : Type 0} (xs : List X) (y : X) → slice_get (xs ++ y ∷ []) (length xs) ≡ Some y
-last_at [] y = refl
-last_at (z ∷ xs) y = last_at xs y
 
 -- ---- rising times
 

@@ -5,8 +5,8 @@ use Rattle.std.proofs.lemmas.Bool.{cases_lt}
 use Rattle.std.proofs.lemmas.Int.{ints}
 use Rattle.std.proofs.lemmas.Option.{same_Some, none-some, slice_get_within}
 use Rattle.frame_sync.specs.Framesync.{SomeOne, EachOne, IsRising}
+use Rattle.av_base.proofs.Lists.{pushed_at, pushed_last, append_get_left}
 use Rattle.frame_sync.specs.Laws.{BeginsList}
-use Rattle.frame_sync.proofs.Pushes.{pushed_at, last_at, in_front}
 
 -- a list has a time
 abbrev pub Has : List ℤ → ℤ → Type 0
@@ -20,19 +20,19 @@ one_place ts m n t rising e f = elim (cases_lt m n) [
 ]
 
 pub has_last : (ts : List ℤ) (t : ℤ) → Has (ts ++ t ∷ []) t
-has_last ts t = (length ts, t, last_at ts t, refl)
+has_last ts t = (length ts, t, pushed_last ts t, refl)
 
 pub has_pushed : (ts : List ℤ) (t u : ℤ) → Has ts u → Has (ts ++ t ∷ []) u
-has_pushed ts t u h = (h.0, h.1, in_front ts (t ∷ []) h.0 h.1 h.2, h.3)
+has_pushed ts t u h = (h.0, h.1, append_get_left ts (t ∷ []) h.0 h.1 h.2, h.3)
 
 pub pushed_has : (ts : List ℤ) (t u : ℤ) → Has (ts ++ t ∷ []) u → Has ts u ⊎ (u ≡ t)
 pushed_has ts t u h = elim (pushed_at ts t h.0 h.1 h.2) [ inl a ↦ inl (h.0, h.1, a, h.3) | inr a ↦ inr (sym h.3 ∙ a.1) ]
 
--- a time behind a rising list isn't in it
+-- a time after a rising list isn't in it
 pub not_before : (ts : List ℤ) (t : ℤ) → IsRising (ts ++ t ∷ []) → Has ts t → ⊥
 not_before ts t rising h =
     let lt = slice_get_within ts h.0 h.1 h.2 in
-    let p : h.1 <ℤ t = rising h.0 (length ts) h.1 t lt (in_front ts (t ∷ []) h.0 h.1 h.2) (last_at ts t) in
+    let p : h.1 <ℤ t = rising h.0 (length ts) h.1 t lt (append_get_left ts (t ∷ []) h.0 h.1 h.2) (pushed_last ts t) in
     let q : h.1 ≡ t = h.3 in
     omega (arith, ints)
 

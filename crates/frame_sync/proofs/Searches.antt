@@ -1,11 +1,11 @@
--- The least time that waits, and the greatest sync, as far as a walk has come.
+-- The earliest time that waits, and the greatest sync, as far as a walk has come.
 use Rattle.std.proofs.Common.{◌≡◌, ◌≢◌, ◌<◌, ◌≤◌, ◌≤ℤ◌, ◌+◌, ℕ, ℤ, List, [], ◌∷◌, Option, Some, None, MatchOption, length, get_or, max, refl, sym, subst, arith, inl, inr}
 use Rattle.std.specs.List.{slice_get}
 use Rattle.std.proofs.lemmas.Bool.{cases_lt}
 use Rattle.std.proofs.lemmas.Int.{ints}
 use Rattle.std.proofs.lemmas.Option.{same_Some, none-some}
 use Rattle.frame_sync.specs.Framesync.{SomeOne, EachOne}
-use Rattle.frame_sync.specs.Lanes.{LaneValue, Heads, IsLeastTime, IsEarlier, IsTop}
+use Rattle.frame_sync.specs.Lanes.{LaneValue, Heads, IsEarliestTime, IsEarlier, IsTop}
 use Rattle.frame_sync.proofs.Loops.{EachBelow, each_none, each_more, each_all, some_here}
 
 pub nothing_waits : (ts : List ℤ) → slice_get ts 0 ≡ None → ts ≡ []
@@ -16,22 +16,22 @@ pub something_waits : (ts : List ℤ) → ts ≢ [] → (t : ℤ) × (slice_get 
 something_waits [] h = absurd (h refl)
 something_waits (t ∷ ts) h = (t, refl)
 
--- ---- the least time
+-- ---- the earliest time
 
-abbrev pub LeastBelow : List LaneValue → ℕ → Option ℤ → Type 0
-LeastBelow lanes i None = EachBelow (λ (x : LaneValue). x.waiting ≡ []) lanes i
-LeastBelow lanes i (Some t) = SomeOne lanes (λ (x : LaneValue). Heads x t) × EachBelow (λ (x : LaneValue). (u : ℤ) → Heads x u → t ≤ℤ u) lanes i
+abbrev pub EarliestBelow : List LaneValue → ℕ → Option ℤ → Type 0
+EarliestBelow lanes i None = EachBelow (λ (x : LaneValue). x.waiting ≡ []) lanes i
+EarliestBelow lanes i (Some t) = SomeOne lanes (λ (x : LaneValue). Heads x t) × EachBelow (λ (x : LaneValue). (u : ℤ) → Heads x u → t ≤ℤ u) lanes i
 
-pub least_more : (lanes : List LaneValue) (i : ℕ) (l : LaneValue) (least new : Option ℤ) → i < length lanes → l ≡ get_or lanes i l → IsEarlier least (slice_get l.waiting 0) new → LeastBelow lanes i least → LeastBelow lanes (i + 1) new
-least_more lanes i l None None within is e h = each_more (λ (x : LaneValue). x.waiting ≡ []) lanes i l within is h (nothing_waits l.waiting e.1)
-least_more lanes i l (Some s) None within is e h = absurd (none-some s (sym e.0))
-least_more lanes i l None (Some t) within is e h = (
+pub earliest_more : (lanes : List LaneValue) (i : ℕ) (l : LaneValue) (earliest new : Option ℤ) → i < length lanes → l ≡ get_or lanes i l → IsEarlier earliest (slice_get l.waiting 0) new → EarliestBelow lanes i earliest → EarliestBelow lanes (i + 1) new
+earliest_more lanes i l None None within is e h = each_more (λ (x : LaneValue). x.waiting ≡ []) lanes i l within is h (nothing_waits l.waiting e.1)
+earliest_more lanes i l (Some s) None within is e h = absurd (none-some s (sym e.0))
+earliest_more lanes i l None (Some t) within is e h = (
   elim e.0 [ inl none ↦ absurd (none-some t none) | inr here ↦ some_here (λ (x : LaneValue). Heads x t) lanes i l within is here ],
   each_more (λ (x : LaneValue). (u : ℤ) → Heads x u → t ≤ℤ u) lanes i l within is
       (λ k x lt f u head. absurd (none-some u (subst (λ (ts : List ℤ). slice_get ts 0 ≡ Some u) (h k x lt f) head)))
       (λ u head. e.2 u head),
 )
-least_more lanes i l (Some s) (Some t) within is e h = (
+earliest_more lanes i l (Some s) (Some t) within is e h = (
   elim e.0 [
     | inl same ↦ subst (λ (z : ℤ). SomeOne lanes (λ (x : LaneValue). Heads x z)) (same_Some s t same) h.0
     | inr here ↦ some_here (λ (x : LaneValue). Heads x t) lanes i l within is here
@@ -41,9 +41,9 @@ least_more lanes i l (Some s) (Some t) within is e h = (
       (λ u head. e.2 u head),
 )
 
-pub least_all : (lanes : List LaneValue) (i : ℕ) (least : Option ℤ) → length lanes ≤ i → LeastBelow lanes i least → MatchOption least (EachOne lanes (λ (l : LaneValue). l.waiting ≡ [])) (IsLeastTime lanes)
-least_all lanes i None all h = each_all (λ (x : LaneValue). x.waiting ≡ []) lanes i all h
-least_all lanes i (Some t) all h = record { here = h.0; least = each_all (λ (x : LaneValue). (u : ℤ) → Heads x u → t ≤ℤ u) lanes i all h.1 }
+pub earliest_all : (lanes : List LaneValue) (i : ℕ) (earliest : Option ℤ) → length lanes ≤ i → EarliestBelow lanes i earliest → MatchOption earliest (EachOne lanes (λ (l : LaneValue). l.waiting ≡ [])) (IsEarliestTime lanes)
+earliest_all lanes i None all h = each_all (λ (x : LaneValue). x.waiting ≡ []) lanes i all h
+earliest_all lanes i (Some t) all h = record { here = h.0; earliest = each_all (λ (x : LaneValue). (u : ℤ) → Heads x u → t ≤ℤ u) lanes i all h.1 }
 
 -- ---- the greatest sync
 

@@ -1,18 +1,19 @@
--- What a plain slow program finds is what the definition says.
+-- What a plain slow program finds is what the definition means.
 use Rattle.std.proofs.Common.{◌≡◌, ◌<◌, ◌<ℤ◌, ◌≤ℤ◌, ◌+ℤ◌, ◌++◌, ℕ, ℤ, pos, Bool, true, false, IsTrue, List, [], ◌∷◌, length, get_or, refl, sym, subst, arith, inl, inr, w64, to_z, of_z}
 use lib.Signed.{lt_z}
 use mir.Val.{SFits}
 use Rattle.std.proofs.lemmas.Int.{ints, to_z-of_z}
 use Rattle.std.proofs.lemmas.Option.{slice_get_read, none-some}
 use Rattle.frame_sync.specs.Framesync.{Input, SomeOne, EachOne, IsRising, HasAt, HasFrom, IsEvent, AreEvents}
+use Rattle.av_base.proofs.Lists.{pushed_at}
 use Rattle.frame_sync.specs.SlowEvents.{Allows, IsMet, AreFew}
-use Rattle.frame_sync.proofs.Pushes.{pushed_at, rising_none, rising_more}
+use Rattle.frame_sync.proofs.Pushes.{rising_none, rising_more}
 use Rattle.frame_sync.proofs.Rising.{Has, has_last, has_pushed}
 use Rattle.frame_sync.proofs.Along.{cases_ltz}
 
 -- a test of a time as the program hands it on is a test of the time
-pub told : (P : ℤ → Type 0) (b : Bool) (t : ℤ) → SFits w64 t → (IsTrue b → P (to_z w64 (of_z w64 t))) × (P (to_z w64 (of_z w64 t)) → IsTrue b) → (IsTrue b → P t) × (P t → IsTrue b)
-told P b t fits h = let e = to_z-of_z w64 t fits in ((λ x. subst P e (h.0 x)), (λ p. h.1 (subst P (sym e) p)))
+pub at_value : (P : ℤ → Type 0) (b : Bool) (t : ℤ) → SFits w64 t → (IsTrue b → P (to_z w64 (of_z w64 t))) × (P (to_z w64 (of_z w64 t)) → IsTrue b) → (IsTrue b → P t) × (P t → IsTrue b)
+at_value P b t fits h = let e = to_z-of_z w64 t fits in ((λ x. subst P e (h.0 x)), (λ p. h.1 (subst P (sym e) p)))
 
 -- one item isn't so, and so not each is
 pub not_each : {X : Type 0} (P : X → Type 0) (xs : List X) (i : ℕ) (x : X) → i < length xs → x ≡ get_or xs i x → (P x → ⊥) → EachOne xs P → ⊥
@@ -51,12 +52,12 @@ event_met inputs t e =
 pub event_allowed : (inputs : List Input) (t : ℤ) → IsEvent inputs t → EachOne inputs (Allows t)
 event_allowed inputs t e = λ k i at. record { begun = e.begun k i at; lasting = e.lasting k i at; ahead = e.settled.ahead k i at }
 
--- a time is told of the program's
-pub each_told : (P : ℤ → Input → Type 0) (inputs : List Input) (t : ℤ) → SFits w64 t → EachOne inputs (P (to_z w64 (of_z w64 t))) → EachOne inputs (P t)
-each_told P inputs t fits h = subst (λ (z : ℤ). EachOne inputs (P z)) (to_z-of_z w64 t fits) h
+-- what holds at the program's value of a time holds at the time
+pub each_at_value : (P : ℤ → Input → Type 0) (inputs : List Input) (t : ℤ) → SFits w64 t → EachOne inputs (P (to_z w64 (of_z w64 t))) → EachOne inputs (P t)
+each_at_value P inputs t fits h = subst (λ (z : ℤ). EachOne inputs (P z)) (to_z-of_z w64 t fits) h
 
-pub some_told : (P : ℤ → Input → Type 0) (inputs : List Input) (t : ℤ) → SFits w64 t → SomeOne inputs (P t) → SomeOne inputs (P (to_z w64 (of_z w64 t)))
-some_told P inputs t fits h = subst (λ (z : ℤ). SomeOne inputs (P z)) (sym (to_z-of_z w64 t fits)) h
+pub some_at_value : (P : ℤ → Input → Type 0) (inputs : List Input) (t : ℤ) → SFits w64 t → SomeOne inputs (P t) → SomeOne inputs (P (to_z w64 (of_z w64 t)))
+some_at_value P inputs t fits h = subst (λ (z : ℤ). SomeOne inputs (P z)) (sym (to_z-of_z w64 t fits)) h
 
 -- ---- all events
 

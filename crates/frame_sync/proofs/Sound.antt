@@ -7,7 +7,8 @@ use Rattle.std.proofs.lemmas.Int.{ints}
 use Rattle.std.proofs.lemmas.Option.{same_Some}
 use Rattle.frame_sync.specs.declared.stamp.Stamp.{Stamp}
 use Rattle.frame_sync.specs.Framesync.{EachOne, IsRising}
-use Rattle.frame_sync.proofs.Pushes.{pushed_at, rising_more}
+use Rattle.av_base.proofs.Lists.{pushed_at}
+use Rattle.frame_sync.proofs.Pushes.{rising_more}
 use Rattle.frame_sync.specs.Lanes.{LaneValue, IsSound, IsPast, next_number}
 
 -- the first time is passed

@@ -45,8 +45,8 @@ pub record IsLevel (inputs : List Input) (t : ℤ) (level : ℕ) : Type 0 where
   pub reached : SomeOne inputs (λ i. HasFrom i t × (i.rule.sync ≡ level))
   pub greatest : EachOne inputs (λ i. HasFrom i t → i.rule.sync ≤ level)
 
--- An event stands at a settled time whose level is above 0, where an input of that sync has a frame, every Stop-before
--- input has a frame not later, and every Stop-after input has one at or after it.
+-- There is an event at a settled time if its level is above 0, an input of that sync has a frame there, every
+-- Stop-before input has a frame not later, and every Stop-after input has one at or after it.
 pub record IsEvent (inputs : List Input) (t : ℤ) : Type 0 where
   pub settled : IsSettled inputs t
   pub level : ℕ
@@ -95,11 +95,6 @@ pub data HasEnded (inputs : List Input) : Type 0 where
   NeverBegins : SomeOne inputs (λ i. (i.rule.before ≡ before.Stop) × (i.ended ≡ true) × (i.times ≡ [])) → HasEnded inputs
   Stops : SomeOne inputs (λ i. (i.rule.after ≡ after.Stop) × IsOver inputs i) → HasEnded inputs
   AllOver : EachOne inputs (λ i. 0 < i.rule.sync → IsOver inputs i) → HasEnded inputs
-
--- the least number of which something holds
-pub record IsLeast (P : ℕ → Type 0) (k : ℕ) : Type 0 where
-  pub holds : P k
-  pub least : (other : ℕ) → other < k → ¬ P other
 
 -- an open input that holds the others back: all its frames are settled
 abbrev pub IsAwaited : List Input → ℕ → Type 0

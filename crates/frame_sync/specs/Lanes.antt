@@ -50,21 +50,21 @@ abbrev pub IsEarlier : Option ℤ → Option ℤ → Option ℤ → Type 0
 IsEarlier a b None = (a ≡ None) × (b ≡ None)
 IsEarlier a b (Some t) = ((a ≡ Some t) ⊎ (b ≡ Some t)) × ((u : ℤ) → a ≡ Some u → t ≤ℤ u) × ((u : ℤ) → b ≡ Some u → t ≤ℤ u)
 
--- the least time that waits
-pub record IsLeastTime (lanes : List LaneValue) (t : ℤ) : Type 0 where
+-- the earliest time that waits
+pub record IsEarliestTime (lanes : List LaneValue) (t : ℤ) : Type 0 where
   pub here : SomeOne lanes (λ l. Heads l t)
-  pub least : EachOne lanes (λ l. (u : ℤ) → Heads l u → t ≤ℤ u)
+  pub earliest : EachOne lanes (λ l. (u : ℤ) → Heads l u → t ≤ℤ u)
 
 -- the greatest sync of those with something waiting, or 0
 pub record IsTop (lanes : List LaneValue) (level : ℕ) : Type 0 where
   pub reached : 0 < level → SomeOne lanes (λ l. (l.waiting ≢ []) × (l.rule.sync ≡ level))
   pub greatest : EachOne lanes (λ l. l.waiting ≢ [] → l.rule.sync ≤ level)
 
--- a timestamp not later than the least that waits
+-- a timestamp not later than the earliest that waits
 abbrev pub HasBegun : LaneValue → ℤ → Type 0
 HasBegun l t = (l.latest ≢ None) ⊎ Heads l t
 
--- what makes the least time that waits an event
+-- what makes the earliest time that waits an event
 pub record MakesEvent (lanes : List LaneValue) (t : ℤ) : Type 0 where
   pub level : ℕ
   pub top : IsTop lanes level
@@ -77,7 +77,7 @@ abbrev pub next_number : Option Stamp → ℕ
 next_number None = 0
 next_number (Some s) = s.number + 1
 
--- a time is passed where it waits first
+-- a time is passed if it is the first that waits
 abbrev pub Passes : LaneValue → ℤ → LaneValue → Type 0
 Passes old t new = ((old.waiting ≡ t ∷ new.waiting) × (new ≡ record old { waiting = new.waiting; latest = Some (record { number = next_number old.latest; pts = t }) }))
     ⊎ ((¬ Heads old t) × (new ≡ old))
@@ -98,7 +98,7 @@ pub record AreEach {X Y : Type 0} (R : X → Y → Type 0) (xs : List X) (ys : L
   pub same : length xs ≡ length ys
   pub each : (k : ℕ) (x : X) (y : Y) → slice_get xs k ≡ Some x → slice_get ys k ≡ Some y → R x y
 
--- a time is passed everywhere
+-- a time is passed by all inputs
 abbrev pub PassesAll : List LaneValue → ℤ → List LaneValue → Type 0
 PassesAll old t new = AreEach (λ l m. Passes l t m) old new
 

@@ -4,7 +4,7 @@ use Rattle.frame_sync.specs.declared.rules.Before.TheVariants as before
 use Rattle.frame_sync.specs.declared.rules.After.TheVariants as after
 use Rattle.frame_sync.specs.Framesync.{Input, EachOne, HasAt, HasFrom, HasUpTo}
 
--- an input lets an event stand at the time: by its rule, and where it is open
+-- an input allows an event at the time: by its rule, and if it is open
 pub record Allows (t : ℤ) (i : Input) : Type 0 where
   pub begun : i.rule.before ≡ before.Stop → HasUpTo i t
   pub lasting : i.rule.after ≡ after.Stop → HasFrom i t

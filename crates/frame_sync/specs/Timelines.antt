@@ -1,10 +1,11 @@
--- Which histories a timeline stands for.
+-- Which histories a timeline represents.
 use Rattle.std.specs.Prelude.{◌≡◌, ◌^◌, ◌<ℤ◌, ◌≤ℤ◌, ℕ, ℤ, pos, neg_ℤ, List, [], ◌∷◌, ◌++◌, false, Option, Some, None, length}
 use Rattle.std.specs.List.{slice_get}
 use Rattle.frame_sync.specs.declared.stamp.Stamp.{Stamp}
 use Rattle.frame_sync.specs.declared.rules.Step.{Step}
 use Rattle.frame_sync.specs.declared.rules.Step.TheVariants.{Event, Need, Done}
-use Rattle.frame_sync.specs.Framesync.{Input, SomeOne, EachOne, IsRising, HasAt, IsSettled, IsEvent, IsLeast}
+use Rattle.frame_sync.specs.Framesync.{Input, SomeOne, EachOne, IsRising, HasAt, IsSettled, IsEvent}
+use Rattle.av_base.specs.First.{IsFirst}
 use Rattle.frame_sync.specs.Histories.{History, IsShown}
 use Rattle.frame_sync.specs.Lanes.{LaneValue, AreEach, IsDone, IsHungryAt}
 
@@ -13,7 +14,7 @@ abbrev pub IsLatest : List ℤ → Option Stamp → Type 0
 IsLatest passed None = passed ≡ []
 IsLatest passed (Some s) = (before : List ℤ) × (passed ≡ before ++ s.pts ∷ []) × (s.number ≡ length before)
 
--- what is kept of an input, where the times up to a clock were passed
+-- what is kept of an input once the times up to a clock were passed
 pub record Keeps (clock : ℤ) (l : LaneValue) (input : Input) : Type 0 where
   pub rule : l.rule ≡ input.rule
   pub ended : l.ended ≡ input.ended
@@ -21,16 +22,16 @@ pub record Keeps (clock : ℤ) (l : LaneValue) (input : Input) : Type 0 where
   pub passed : List ℤ
   pub times : input.times ≡ passed ++ l.waiting
   pub latest : IsLatest passed l.latest
-  pub behind : EachOne passed (λ t. t ≤ℤ clock)
+  pub reached : EachOne passed (λ t. t ≤ℤ clock)
   pub ahead : EachOne l.waiting (λ t. clock <ℤ t)
 
 -- a time that can still be pushed to an open input
 abbrev pub CanCome : Input → ℤ → Type 0
 CanCome input t = (neg_ℤ (pos (2 ^ 63)) ≤ℤ t) × EachOne input.times (λ u. u <ℤ t)
 
--- A timeline stands for a history where, up to some clock, all times were passed and all events answered. What was
--- passed is settled, and all that can still be pushed comes behind the clock.
-pub record StandsFor (lanes : List LaneValue) (h : History) : Type 0 where
+-- A timeline represents a history if, up to some clock, all times were passed and all events returned. What was
+-- passed is settled, and all that can still be pushed comes after the clock.
+pub record Represents (lanes : List LaneValue) (h : History) : Type 0 where
   pub clock : ℤ
   pub keeps : AreEach (Keeps clock) lanes h.inputs
   pub settled : (t : ℤ) → SomeOne h.inputs (λ i. HasAt i t) → t ≤ℤ clock → IsSettled h.inputs t
@@ -40,9 +41,9 @@ pub record StandsFor (lanes : List LaneValue) (h : History) : Type 0 where
   pub all : (t : ℤ) → IsEvent h.inputs t → t ≤ℤ clock → SomeOne h.events (λ u. u ≡ t)
   pub shows : (k : ℕ) (l : LaneValue) → slice_get lanes k ≡ Some l → IsShown h k l.current
 
--- what waits where `next` answers: at Need the input is the least open one with nothing waiting; at Done an input ends
--- all, or every one of sync above 0 has ended with nothing waiting
+-- What waits after a call of `next`. At Need the input is the lowest open one with nothing waiting. At Done an input ends
+-- all, or every one of sync above 0 has ended with nothing waiting.
 abbrev pub IsLeft : Step → List LaneValue → Type 0
 IsLeft (Event t) lanes = Unit {0}
-IsLeft (Need k) lanes = (¬ IsDone lanes) × IsLeast (IsHungryAt lanes) k
+IsLeft (Need k) lanes = (¬ IsDone lanes) × IsFirst (IsHungryAt lanes) k
 IsLeft Done lanes = IsDone lanes

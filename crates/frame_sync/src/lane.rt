@@ -111,7 +111,7 @@ impl Lane {
         !self.ended && self.waiting.is_empty()
     }
 
-    /// Whether no event comes any more on its account.
+    /// Whether it ends all events.
     pub(crate) fn ends_all(&self) -> bool
         ensures { IsTrue result ↔ EndsAll self.now }
     {
@@ -119,14 +119,14 @@ impl Lane {
         self.is_spent() && (never_begins || self.rule.after == After::Stop)
     }
 
-    /// Whether it lets an event stand at the least time that waits, by what it does before its first frame.
+    /// Whether it allows an event at the earliest time that waits, by what it does before its first frame.
     pub(crate) fn has_begun(&self, pts: i64) -> bool
         ensures { IsTrue result ↔ HasBegun self.now pts }
     {
         self.latest.is_some() || self.head() == Some(pts)
     }
 
-    /// Passes the least time that waits, if it is there.
+    /// Passes the earliest time that waits, if it has it.
     pub(crate) fn pass(&mut self, pts: i64)
         ensures { Passes self.old pts self.new }
     {

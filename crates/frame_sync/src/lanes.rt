@@ -1,9 +1,10 @@
 //! One turn over all inputs.
 ghost use Rattle.std.specs.Prelude.{◌≡◌, ◌↔◌, ◌<◌, ◌≤◌, ◌^◌, ℕ, [], length, IsTrue, IsFalse, MatchOption};
-ghost use Rattle.frame_sync.specs.Framesync.{SomeOne, EachOne, IsLeast};
-ghost use Rattle.frame_sync.specs.Histories.{History, IsNext, answered};
-ghost use Rattle.frame_sync.specs.Timelines.{StandsFor, IsLeft};
-ghost use Rattle.frame_sync.specs.Lanes.{IsSpent, EndsAll, IsDone, IsHungryAt, Heads, IsLeastTime, IsEarlier, IsTop, HasBegun, MakesEvent, PassesAll, ShowsAll, waiting_count};
+ghost use Rattle.frame_sync.specs.Framesync.{SomeOne, EachOne};
+ghost use Rattle.av_base.specs.First.{IsFirst};
+ghost use Rattle.frame_sync.specs.Histories.{History, IsNext, returned};
+ghost use Rattle.frame_sync.specs.Timelines.{Represents, IsLeft};
+ghost use Rattle.frame_sync.specs.Lanes.{IsSpent, EndsAll, IsDone, IsHungryAt, Heads, IsEarliestTime, IsEarlier, IsTop, HasBegun, MakesEvent, PassesAll, ShowsAll, waiting_count};
 ghost use Rattle.frame_sync.specs.declared.rules.Before.TheVariants as before;
 ghost use Rattle.frame_sync.specs.declared.rules.Step.TheVariants.{Event};
 
@@ -41,9 +42,9 @@ fn is_done(lanes: &[Lane]) -> bool
     one_ends_all(lanes) || all_are_spent(lanes)
 }
 
-/// The least open input with nothing waiting.
+/// The lowest open input with nothing waiting.
 fn first_hungry(lanes: &[Lane]) -> Option<usize>
-    ensures { MatchOption result ((k : ℕ) → IsHungryAt lanes.now k → ⊥) (IsLeast (IsHungryAt lanes.now)) }
+    ensures { MatchOption result ((k : ℕ) → IsHungryAt lanes.now k → ⊥) (IsFirst (IsHungryAt lanes.now)) }
 {
     'lanes: for (input, lane) in lanes.iter().enumerate() {
         if lane.is_hungry() {
@@ -53,15 +54,15 @@ fn first_hungry(lanes: &[Lane]) -> Option<usize>
     None
 }
 
-/// The least time that waits.
-fn least_time(lanes: &[Lane]) -> Option<i64>
-    ensures { MatchOption result (EachOne lanes.now (λ l. l.waiting ≡ [])) (IsLeastTime lanes.now) }
+/// The earliest time that waits.
+fn earliest_time(lanes: &[Lane]) -> Option<i64>
+    ensures { MatchOption result (EachOne lanes.now (λ l. l.waiting ≡ [])) (IsEarliestTime lanes.now) }
 {
-    let mut least: Option<i64> = None;
+    let mut earliest: Option<i64> = None;
     'lanes: for lane in lanes {
-        least = earlier(least, lane.head());
+        earliest = earlier(earliest, lane.head());
     }
-    least
+    earliest
 }
 
 /// The earlier of two times, either of which may be missing.
@@ -100,7 +101,7 @@ fn one_meets(lanes: &[Lane], pts: i64, level: u8) -> bool
     false
 }
 
-/// Whether every Stop-before input has a timestamp not later than the least that waits.
+/// Whether every Stop-before input has a timestamp not later than the earliest that waits.
 fn all_have_begun(lanes: &[Lane], pts: i64) -> bool
     ensures { IsTrue result ↔ EachOne lanes.now (λ l. l.rule.before ≡ before.Stop → HasBegun l pts) }
 {
@@ -112,7 +113,7 @@ fn all_have_begun(lanes: &[Lane], pts: i64) -> bool
     true
 }
 
-/// Whether the least time that waits is an event.
+/// Whether the earliest time that waits is an event.
 fn makes_event(lanes: &[Lane], pts: i64) -> bool
     ensures { IsTrue result ↔ MakesEvent lanes.now pts }
 {
@@ -120,7 +121,7 @@ fn makes_event(lanes: &[Lane], pts: i64) -> bool
     level > 0 && one_meets(lanes, pts, level) && all_have_begun(lanes, pts)
 }
 
-/// Passes the least time that waits.
+/// Passes the earliest time that waits.
 fn pass_all(lanes: &mut [Lane], pts: i64)
     ensures { PassesAll lanes.old pts lanes.new }
 {
@@ -138,13 +139,13 @@ fn show_all(lanes: &mut [Lane], pts: i64)
     }
 }
 
-/// Passes the least time that waits, and tells whether it is an event.
+/// Passes the earliest time that waits. Returns whether it is an event.
 fn turn(lanes: &mut [Lane], pts: i64) -> bool
-    requires least { IsLeastTime lanes.old pts }
+    requires earliest { IsEarliestTime lanes.old pts }
     requires fed { (k : ℕ) → ¬ IsHungryAt lanes.old k }
     requires lasting { ¬ IsDone lanes.old }
-    ensures event { (h : History) → StandsFor lanes.old h → IsTrue result → IsNext h (Event pts) × StandsFor lanes.new (answered (Event pts) h) }
-    ensures none { (h : History) → StandsFor lanes.old h → IsFalse result → StandsFor lanes.new h }
+    ensures event { (h : History) → Represents lanes.old h → IsTrue result → IsNext h (Event pts) × Represents lanes.new (returned (Event pts) h) }
+    ensures none { (h : History) → Represents lanes.old h → IsFalse result → Represents lanes.new h }
     ensures fewer { waiting_count lanes.new < waiting_count lanes.old }
 {
     let is_event = makes_event(lanes, pts);
@@ -158,7 +159,7 @@ fn turn(lanes: &mut [Lane], pts: i64) -> bool
 /// Passes times up to the next event, if it is known.
 pub(crate) fn advance(lanes: &mut [Lane]) -> Step
     requires { length lanes.old ≤ 2 ^ 32 }
-    ensures next { (h : History) → StandsFor lanes.old h → IsNext h result × StandsFor lanes.new (answered result h) }
+    ensures next { (h : History) → Represents lanes.old h → IsNext h result × Represents lanes.new (returned result h) }
     ensures left { IsLeft result lanes.new }
 {
     'turns: loop {
@@ -169,7 +170,7 @@ pub(crate) fn advance(lanes: &mut [Lane]) -> Step
             let input = input as u32;
             return Step::Need { input };
         }
-        let Some(pts) = least_time(lanes) else {
+        let Some(pts) = earliest_time(lanes) else {
             return Step::Done;
         };
         if turn(lanes, pts) {

@@ -8,7 +8,7 @@ mod rules;
 mod stamp;
 mod timeline;
 
-pub use law::{ended_inputs_end, events_are_one, events_begin, histories_tell};
+pub use law::{ended_inputs_end, events_are_one, events_begin, histories_show};
 pub use rules::{After, Before, Rule, Step};
 pub use timeline::Timeline;
 

@@ -1,4 +1,4 @@
-//! What an input does before its first frame and after its last one, and what a timeline answers.
+//! What an input does before its first frame and after its last one, and what a timeline returns.
 
 /// What an input does before its first frame.
 #[derive(Clone, Copy, Debug, PartialEq, Eq)]
@@ -27,7 +27,7 @@ pub struct Rule {
     pub before: Before,
     /// What it does after its last frame.
     pub after: After,
-    /// Events come at the frames of the inputs of the greatest sync. With 0 it makes none.
+    /// Events come at the frames of the inputs with the greatest sync. An input with 0 makes none.
     pub sync: u8,
 }
 
@@ -41,7 +41,7 @@ pub enum Step {
     },
     /// An input has to get a timestamp, or to end, before more is known.
     Need {
-        /// The least such input.
+        /// The lowest such input.
         input: u32,
     },
     /// No more events come.

@@ -92,7 +92,7 @@ impl Whole {
         one_is_up_to(self.times.as_slice(), t)
     }
 
-    /// Whether it lets an event stand at the time, by what it does before its first frame.
+    /// Whether it allows an event at the time, by what it does before its first frame.
     fn has_begun(&self, t: i64) -> bool
         ensures { IsTrue result ↔ (self.now.rule.before ≡ before.Stop → HasUpTo self.now t) }
     {
@@ -106,7 +106,7 @@ impl Whole {
         self.rule.after == After::Stop || !self.ended
     }
 
-    /// Whether it lets an event stand at the time.
+    /// Whether it allows an event at the time.
     fn allows(&self, t: i64) -> bool
         ensures { IsTrue result ↔ Allows t self.now }
     {
@@ -131,7 +131,7 @@ impl Whole {
     }
 }
 
-/// Whether each input lets an event stand at the time, by its rule.
+/// Whether each input allows an event at the time, by its rule.
 fn all_allow(inputs: &[Whole], t: i64) -> bool
     ensures { IsTrue result ↔ EachOne inputs.now (Allows t) }
 {
@@ -175,7 +175,7 @@ fn one_meets(inputs: &[Whole], t: i64) -> bool
     false
 }
 
-/// Whether an event stands at the time.
+/// Whether there is an event at the time.
 fn is_event(inputs: &[Whole], t: i64) -> bool
     ensures { IsTrue result ↔ IsEvent inputs.now t }
 {
@@ -262,7 +262,7 @@ fn all_rules() -> [[Rule; 2]; 6] {
     ]
 }
 
-/// A timeline, the whole lists of its inputs, and the events that it answered.
+/// A timeline, the whole lists of its inputs, and the events that it returned.
 #[derive(Drop)]
 struct Run {
     timeline: Timeline,
@@ -317,7 +317,7 @@ fn drain(run: &mut Run) -> Result<(), Fail> {
 }
 
 #[test]
-fn timeline_answers_all_events_that_are_known(rt: HostRuntime) -> Result<(), Fail> {
+fn timeline_returns_all_events_that_are_known(rt: HostRuntime) -> Result<(), Fail> {
     let alloc = rt.alloc();
     for rules in all_rules() {
         for table in TABLES {

@@ -51,12 +51,12 @@ fn rules(first: (Before, After, u8), second: (Before, After, u8)) -> [Rule; 2] {
     [main, other]
 }
 
-/// Pushes the next time of a list, or ends the input behind the last one.
+/// Pushes the next time of a list, or ends the input after the last one.
 fn feed(timeline: &mut Timeline, alloc: Global, input: u32, list: &mut &[i64]) -> Result<(), Fail> {
     match *list {
-        [first, behind @ ..] => {
+        [first, rest @ ..] => {
             push(timeline, alloc, input, *first)?;
-            *list = behind;
+            *list = rest;
         }
         [] => end(timeline, input)?,
     }

@@ -12,7 +12,7 @@ use Rattle.graph_formats.specs.Assignments.{first_of, second_of, AreBelow, AreRe
 use Rattle.graph_formats.specs.declared.demands.Demands.{Demands}
 use Rattle.graph_formats.specs.Demands.{Asked, AreDemands, asked_of}
 use Rattle.graph_formats.specs.Walks.{IsGiven, IsSettled, IsBarren}
-use Rattle.graph_formats.proofs.Places.{get_within}
+use Rattle.av_base.proofs.Lists.{get_within}
 use Rattle.graph_formats.proofs.DemandLemmas.{AskSame, asked_same, asked_sound}
 use Rattle.graph_formats.proofs.PartLemmas.{closed_joined, settled_fits}
 
@@ -41,7 +41,7 @@ chosen_same a b same formats is = record {
     wished = λ link f at. (same.wished link f).0 (is.assignment.wished link f at);
     met = λ relation here. is.assignment.met relation ((same.relations relation).1 here);
   };
-  least = λ link has. is.least link (record {
+  earliest = λ link has. is.earliest link (record {
     other = has.other;
     fits = fits_same b a (same_back a b same) link has.other has.fits;
     agrees = λ before low joined. has.agrees before low (joined_same a b same link before joined);
@@ -68,7 +68,7 @@ first_same a b same link is = record {
 
 -- ---- part after part
 
--- the first so many links are given their formats
+-- the first links are given their formats
 pub record Choosing (asked : Asked) (d : Draft) (count : ℕ) : Type 0 where
   pub settled : IsSettled asked d
   pub lower : (link : ℕ) → link < count → IsGiven d link
@@ -91,7 +91,7 @@ choosing_start asked links d same formats given = record {
     closed = λ relation here. (λ is. absurd (none_given links d (first_of relation) given is), λ is. absurd (none_given links d (second_of relation) given is));
     met = λ relation here is. absurd (none_given links d (first_of relation) given is);
     wished = λ link f is. absurd (none_given links d link given is);
-    least = λ link is. absurd (none_given links d link given is);
+    earliest = λ link is. absurd (none_given links d link given is);
   };
   lower = λ link none. absurd (omega arith);
 }
@@ -112,12 +112,12 @@ choosing_all asked d count below is all = record {
     wished = λ link f at. is.settled.wished link f (given link f at) at;
     met = λ relation here. is.settled.met relation here (is.lower (first_of relation) (let low = (below relation here).0 in omega arith));
   };
-  least = λ link has. is.settled.least link (given link has.here has.is_here) has;
+  earliest = λ link has. is.settled.earliest link (given link has.here has.is_here) has;
 } where
   given : (link : ℕ) (f : Format) → slice_get d.formats.items link ≡ Some f → IsGiven d link
   given link f at = is.lower link (let low = slice_get_within d.formats.items link f at in let each = is.settled.each_format in omega arith)
 
--- the least link of a part that has no formats
+-- the lowest link of a part that has no formats
 choosing_none : (asked : Asked) (d : Draft) (root : ℕ) → Choosing asked d root → ¬ IsGiven d root → root < asked.links → ((f : Format) → IsBarren asked root f) → IsFirstWithout asked.links asked.wishes asked.relations root
 choosing_none asked d root is bare low barren = record {
   without = record {
@@ -131,7 +131,7 @@ choosing_none asked d root is bare low barren = record {
   first = λ other less none. none.none d.formats.items (settled_fits asked d is.settled other (is.lower other less));
 }
 
--- what is answered, of demands that were made of what is asked
+-- what is returned, in terms of what is asked
 module _ (links : ℕ) (wishes ws : List Wish) (relations rs : List Relation) (demands : Demands) (below : AreBelow links wishes relations) (same_wishes : ws ≡ wishes) (same_relations : rs ≡ relations)
     (made : AreDemands (record { links = links; wishes = ws; relations = rs }) demands) where
   abbrev asked : Asked

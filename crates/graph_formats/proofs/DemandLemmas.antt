@@ -15,9 +15,9 @@ use Rattle.graph_formats.specs.declared.request.Wish.{Wish}
 use Rattle.graph_formats.specs.declared.ties.Tie.{Tie}
 use Rattle.graph_formats.specs.declared.ties.Ties.{Ties}
 use Rattle.graph_formats.specs.Assignments.{first_of, second_of, IsWished, AreWishesBelow}
-use Rattle.graph_formats.specs.Demands.{AreNarrowed, Names, IsListed, Here, Behind, head_of, HasTie, AreLists, AreTied, IsTied, AreBothTied, Asked, AreDemands, wishes_from, asked_of}
+use Rattle.graph_formats.specs.Demands.{AreNarrowed, Names, IsListed, Here, After, head_of, HasTie, AreLists, AreTied, IsTied, AreBothTied, Asked, AreDemands, wishes_from, asked_of}
 use Rattle.graph_formats.specs.declared.demands.Demands.{Demands}
-use Rattle.graph_formats.proofs.Places.{get_set_same, get_set_other, get_before, get_push, pushed_at, get_replicate, none_contained, contained_cases, get_within, contained, place_of}
+use Rattle.av_base.proofs.Lists.{get_set_same, get_set_other, append_get_left, pushed_last, pushed_at, get_replicate, none_contained, contained_cases, get_within, contained, place_of}
 
 -- ---- wishes
 
@@ -89,12 +89,12 @@ no_relation = Same 0 0
 pub listed_cases : (ties : List Tie) (begin : Option ℕ) (found : ℕ) → IsListed ties begin found
     → (place : ℕ) × (begin ≡ Some place) × ((found ≡ place) ⊎ ((tie : Tie) × (slice_get ties place ≡ Some tie) × IsListed ties tie.next found))
 listed_cases ties _ _ (Here place) = (place, refl, inl refl)
-listed_cases ties _ _ (Behind place found tie at rest) = (place, refl, inr (tie, at, rest))
+listed_cases ties _ _ (After place found tie at rest) = (place, refl, inr (tie, at, rest))
 
--- a list stays where ties are added
+-- a list stays as it is if ties are added
 listed_stays : (ties more : List Tie) (begin : Option ℕ) (found : ℕ) → IsListed ties begin found → IsListed (ties ++ more) begin found
 listed_stays ties more _ _ (Here place) = Here place
-listed_stays ties more _ _ (Behind place found tie at rest) = Behind place found tie (get_before ties more place tie at) (listed_stays ties more tie.next found rest)
+listed_stays ties more _ _ (After place found tie at rest) = After place found tie (append_get_left ties more place tie at) (listed_stays ties more tie.next found rest)
 
 -- lists go on to lower places
 abbrev pub Falls : List Tie → Type 0
@@ -103,18 +103,18 @@ Falls ties = (place next : ℕ) (tie : Tie) → slice_get ties place ≡ Some ti
 listed_back : (ties : List Tie) (tie : Tie) → Falls ties → (begin : Option ℕ) (found : ℕ) → IsListed (ties ++ tie ∷ []) begin found
     → ((place : ℕ) → begin ≡ Some place → place < length ties) → IsListed ties begin found
 listed_back ties last falls _ _ (Here place) low = Here place
-listed_back ties last falls _ _ (Behind place found tie at rest) low = elim (pushed_at ties last place tie at) [
-  | inl old ↦ Behind place found tie old (listed_back ties last falls tie.next found rest (λ next e. let less = falls place next tie old e in let within = low place refl in omega arith))
+listed_back ties last falls _ _ (After place found tie at rest) low = elim (pushed_at ties last place tie at) [
+  | inl old ↦ After place found tie old (listed_back ties last falls tie.next found rest (λ next e. let less = falls place next tie old e in let within = low place refl in omega arith))
   | inr new ↦ absurd (let within = low place refl in let here = new.0 in omega arith)
 ]
 
 -- a list has places of its ties
 pub place_within : (ties : List Tie) (begin : Option ℕ) (found : ℕ) → IsListed ties begin found → ((place : ℕ) → begin ≡ Some place → place < length ties) → Falls ties → found < length ties
 place_within ties _ _ (Here place) low falls = low place refl
-place_within ties _ _ (Behind place found tie at rest) low falls =
+place_within ties _ _ (After place found tie at rest) low falls =
     place_within ties tie.next found rest (λ next e. let less = falls place next tie at e in let within = low place refl in omega arith) falls
 
--- none is what is left where it can't be some
+-- what isn't `Some` is `None`
 pub only_none : {X : Type 0} (R : Option X → Type 0) → ((x : X) → R (Some x) → ⊥) → (y : Option X) → R y → y ≡ None
 only_none R not_some None is = refl
 only_none R not_some (Some x) is = absurd (not_some x is)
@@ -156,10 +156,10 @@ module _ (links : ℕ) (Has : ℕ → Relation → Type 0) (old new : Ties) (lin
   back begin found h below = let P : List Tie → Type 0 = λ t. IsListed t begin found in listed_back old.ties.items last is.falls begin found (subst P put.ties h) below
 
   at_old : (place : ℕ) (tie : Tie) → slice_get old.ties.items place ≡ Some tie → slice_get new.ties.items place ≡ Some tie
-  at_old place tie at = ap (λ (t : List Tie). slice_get t place) put.ties ∙ get_before old.ties.items (last ∷ []) place tie at
+  at_old place tie at = ap (λ (t : List Tie). slice_get t place) put.ties ∙ append_get_left old.ties.items (last ∷ []) place tie at
 
   at_last : slice_get new.ties.items (length old.ties.items) ≡ Some last
-  at_last = ap (λ (t : List Tie). slice_get t (length old.ties.items)) put.ties ∙ get_push old.ties.items last
+  at_last = ap (λ (t : List Tie). slice_get t (length old.ties.items)) put.ties ∙ pushed_last old.ties.items last
 
   at_new : (place : ℕ) (tie : Tie) → slice_get new.ties.items place ≡ Some tie → (slice_get old.ties.items place ≡ Some tie) ⊎ ((place ≡ length old.ties.items) × (tie ≡ last))
   at_new place tie at = pushed_at old.ties.items last place tie (ap (λ (t : List Tie). slice_get t place) (sym put.ties) ∙ at)
@@ -174,7 +174,7 @@ module _ (links : ℕ) (Has : ℕ → Relation → Type 0) (old new : Ties) (lin
           let Q : ℕ → Type 0 = λ n. IsListed new.ties.items (head_of new n) tie.place in
           let R : Option ℕ → Type 0 = λ h. IsListed new.ties.items h tie.place in
           let rest : IsListed new.ties.items last.next tie.place = stays (head_of old link) tie.place (subst P same tie.listed) in
-          subst Q (sym same) (subst R (sym head_same) (Behind (length old.ties.items) tie.place last at_last rest))
+          subst Q (sym same) (subst R (sym head_same) (After (length old.ties.items) tie.place last at_last rest))
           )
       | inr apart ↦ (let R : Option ℕ → Type 0 = λ h. IsListed new.ties.items h tie.place in subst R (sym (head_other other apart)) (stays (head_of old other) tie.place tie.listed))
     ];
@@ -192,7 +192,7 @@ module _ (links : ℕ) (Has : ℕ → Relation → Type 0) (old new : Ties) (lin
     is_relation = refl;
   }
 
-  -- what is behind what was put there was in the list of a link
+  -- what comes after it was in the list of a link
   had : (here other : ℕ) (r : Relation) (tie : HasTie new here r) → IsListed new.ties.items (head_of old other) tie.place → HasTie old other r
   had here other r tie listed = record {
     place = tie.place;
@@ -207,7 +207,7 @@ module _ (links : ℕ) (Has : ℕ → Relation → Type 0) (old new : Ties) (lin
     before : IsListed old.ties.items (head_of old other) tie.place
     before = back (head_of old other) tie.place listed (is.begins other)
 
-  -- what stands first in the list is what was put there
+  -- the first of the list is what was put there
   first_tie : (place : ℕ) (tie : Tie) → Some (length old.ties.items) ≡ Some place → slice_get new.ties.items place ≡ Some tie → tie ≡ last
   first_tie place tie e at = same_Some tie last (sym at ∙ (ap (slice_get new.ties.items) (sym (same_Some (length old.ties.items) place e)) ∙ at_last))
 
@@ -219,9 +219,9 @@ module _ (links : ℕ) (Has : ℕ → Relation → Type 0) (old new : Ties) (lin
             let at = ap (slice_get new.ties.items) (sym first) ∙ tie.is_tie in
             inr (sym tie.is_relation ∙ ap (λ (t : Tie). t.relation) (first_tie cases.0 tie.tie cases.1 at))
             )
-        | inr behind ↦ (
+        | inr later ↦ (
             let P : Tie → Type 0 = λ t. IsListed new.ties.items t.next tie.place in
-            inl (had here link r tie (subst P (first_tie cases.0 behind.0 cases.1 behind.1) behind.2))
+            inl (had here link r tie (subst P (first_tie cases.0 later.0 cases.1 later.1) later.2))
             )
       ]
 
@@ -348,7 +348,7 @@ relation_kept : (links : ℕ) (relations : List Relation) (all : Ties) → AreTi
 relation_kept links relations all tied relation = (
   λ here. (
       let at = place_of (map (λ (tie : Tie). tie.relation) all.ties.items) relation here in
-      let tie = mapped all.ties.items at.0 relation at.1 in
+      let tie = mapped all.ties.items at.0 relation at.2 in
       let from = tied.source at.0 tie.0 tie.1 in
       let P : Relation → Type 0 = λ r. Contains relations r in
       subst P tie.2 from.1.0

@@ -9,9 +9,9 @@ use Rattle.av_base.proofs.FormatSetLemmas.{same_place}
 use Rattle.graph_formats.specs.declared.request.Relation.{Relation}
 use Rattle.graph_formats.specs.declared.request.Wish.{Wish}
 use Rattle.graph_formats.specs.Assignments.{first_of, Joined, Through, IsAssignment, FitsPart, IsChosen, IsFirstWithout}
-use Rattle.graph_formats.proofs.Places.{get_within, same_gets}
+use Rattle.av_base.proofs.Lists.{get_within, same_gets}
 
--- a format doesn't stand before itself
+-- a format doesn't come before itself
 pub precedes_other : (f g : Format) → Precedes f g → f ≡ g → ⊥
 precedes_other f g less same = let e = ap place_of same in omega arith
 
@@ -29,10 +29,10 @@ module _ (links : ℕ) (wishes : List Wish) (relations : List Relation) where
     met = λ relation here on. fits.met relation here (Through link other (first_of relation) joined on);
   }
 
-  -- the one has no earlier format where both agree before
+  -- the one has no earlier format at a link before which both agree
   not_earlier : (a b : List Format) → IsChosen links wishes relations a → IsChosen links wishes relations b → (link : ℕ) → ((before : ℕ) → before < link → slice_get a before ≡ slice_get b before)
       → (f g : Format) → slice_get a link ≡ Some f → slice_get b link ≡ Some g → Precedes f g → ⊥
-  not_earlier a b is other link agree f g at there less = other.least link (record {
+  not_earlier a b is other link agree f g at there less = other.earliest link (record {
     other = a;
     fits = assigned_fits a is.assignment link;
     agrees = λ before low joined. agree before low;

@@ -1,4 +1,3 @@
-mod Places
 mod DemandLemmas
 mod WalkLemmas
 mod PartLemmas

@@ -15,7 +15,7 @@ use Rattle.graph_formats.specs.declared.request.Relation.{Relation}
 use Rattle.graph_formats.specs.declared.request.Wish.{Wish}
 use Rattle.graph_formats.specs.Assignments.{first_of, second_of, AreBelow, IsAssignment, Joined, Named, Back, Through, Itself, FitsPart, IsChosen}
 use Rattle.graph_formats.specs.Listings.{AreWished, IsBefore, BeginsWith, Completes}
-use Rattle.graph_formats.proofs.Places.{get_within, get_before, get_push}
+use Rattle.av_base.proofs.Lists.{get_within, append_get_left, pushed_last}
 use Rattle.graph_formats.proofs.LawLemmas.{precedes_other}
 use Rattle.graph_formats.proofs.TotalLemmas.{known_joined, tabulate, tabulated, length-tabulate}
 
@@ -38,7 +38,7 @@ wished_more wishes wish formats f all at has link g there set here = elim (Conta
 -- ---- listings that begin with another
 
 begins_at : (start : List Format) (f : Format) (other : List Format) → BeginsWith (start ++ f ∷ []) other → slice_get other (length start) ≡ Some f
-begins_at start f other begins = ap (λ (l : List Format). slice_get l (length start)) begins.1 ∙ get_before (start ++ f ∷ []) begins.0 (length start) f (get_push start f)
+begins_at start f other begins = ap (λ (l : List Format). slice_get l (length start)) begins.1 ∙ append_get_left (start ++ f ∷ []) begins.0 (length start) f (pushed_last start f)
 
 -- a listing that is longer than its beginning goes on with a format
 begins_on : (start other : List Format) → BeginsWith start other → length start < length other → (f : Format) × BeginsWith (start ++ f ∷ []) other × (slice_get other (length start) ≡ Some f)
@@ -54,14 +54,14 @@ begins_less start f other begins = (f ∷ begins.0, begins.1 ∙ append_assoc st
 begins_alike : (start one other : List Format) → BeginsWith start one → BeginsWith start other → (k : ℕ) → k < length start → slice_get one k ≡ slice_get other k
 begins_alike start one other p q k low =
     let at = get_within start k low in
-    let first = ap (λ (l : List Format). slice_get l k) p.1 ∙ get_before start p.0 k at.0 at.1 in
-    let second = ap (λ (l : List Format). slice_get l k) q.1 ∙ get_before start q.0 k at.0 at.1 in
+    let first = ap (λ (l : List Format). slice_get l k) p.1 ∙ append_get_left start p.0 k at.0 at.1 in
+    let second = ap (λ (l : List Format). slice_get l k) q.1 ∙ append_get_left start q.0 k at.0 at.1 in
     first ∙ sym second
 
 -- ---- the search
 
 module _ (links : ℕ) (wishes : List Wish) (relations : List Relation) where
-  -- no assignment goes on with one of the first so many formats
+  -- no assignment goes on with one of the first formats
   pub record Completing (old now : List Format) (count : ℕ) : Type 0 where
     pub same : now ≡ old
     pub failed : (other : List Format) → IsAssignment links wishes relations other → (f : Format) → place_of f < count → BeginsWith (old ++ f ∷ []) other → ⊥
@@ -186,7 +186,7 @@ module _ (links : ℕ) (wishes : List Wish) (relations : List Relation) (below :
   pub first_is_chosen : ((other : List Format) → IsAssignment links wishes relations other → IsBefore other formats → ⊥) → IsChosen links wishes relations formats
   first_is_chosen first = record {
     assignment = is;
-    least = λ link has. (
+    earliest = λ link has. (
         let low : link < links = (let within = slice_get_within formats link has.here has.is_here in let each = is.each in omega arith) in
         first (mixed has.other link) (mixed_all has.other link has.fits) (record {
           place = link;

@@ -14,7 +14,7 @@ use Rattle.graph_formats.specs.Assignments.{first_of, second_of, Meets, Joined, 
 use Rattle.graph_formats.specs.declared.demands.Demands.{Demands}
 use Rattle.graph_formats.specs.Demands.{AreNarrowed, AreDemands, Asked}
 use Rattle.graph_formats.specs.Walks.{IsGiven, Gave, IsSettled, IsBarren, Tour, Begins, IsWalk, IsFollowed, Extends, IsWalked, IsRestored}
-use Rattle.graph_formats.proofs.Places.{place_of as place_in, none_contained, get_before, get_within}
+use Rattle.av_base.proofs.Lists.{place_of as place_in, none_contained, append_get_left, get_within}
 use Rattle.graph_formats.proofs.LawLemmas.{fits_joined, precedes_other}
 use Rattle.graph_formats.proofs.WalkLemmas.{walk_more, format_same, reached_here, extends_reached, set_at}
 
@@ -52,14 +52,14 @@ walk_start tour d settled bare formats given reached = record {
   nothing : (link : ℕ) → Contains d.reached.items link → ⊥
   nothing link here = let P : List ℕ → Type 0 = λ l. Contains l link in none_contained link (subst P reached here)
 
--- during the walk, the relations of the first so many links that it came to are met
+-- during the walk, the relations of the first links that it came to are met
 pub record Walking (tour : Tour) (d : Draft) (count : ℕ) : Type 0 where
   pub walk : IsWalk tour d
   pub root : Contains d.reached.items tour.root
   pub format : slice_get d.formats.items tour.root ≡ Some tour.format
   pub followed : (place link : ℕ) → place < count → slice_get d.reached.items place ≡ Some link → IsFollowed tour.asked.relations d link
 
--- the least link is given its format, or can't have it
+-- the lowest link is given its format, or can't have it
 module _ (tour : Tour) (old new : Draft) (set : FormatSet) (sets : List FormatSet) (walk : IsWalk tour old) (bare : ¬ IsGiven old tour.root) (low : tour.root < tour.asked.links)
     (narrowed : AreNarrowed tour.asked.links tour.asked.wishes sets) (is : slice_get sets tour.root ≡ Some set) where
   root_given : Gave old new set tour.root tour.format true → Walking tour new 0
@@ -120,7 +120,7 @@ walking_more tour old new count link walking at walk extends followed = record {
   ];
 } where
   still : (place other : ℕ) → slice_get old.reached.items place ≡ Some other → slice_get new.reached.items place ≡ Some other
-  still place other is = ap (λ (l : List ℕ). slice_get l place) extends.reached ∙ get_before old.reached.items extends.more place other is
+  still place other is = ap (λ (l : List ℕ). slice_get l place) extends.reached ∙ append_get_left old.reached.items extends.more place other is
 
   place_at : (place : ℕ) → place < length old.reached.items → (other : ℕ) × (slice_get old.reached.items place ≡ Some other)
   place_at place within = get_within old.reached.items place within
@@ -133,7 +133,7 @@ pub walking_all : (tour : Tour) (d : Draft) (count : ℕ) → Walking tour d cou
 walking_all tour d count walking all = record {
   root = walking.root;
   format = walking.format;
-  followed = λ link here. (let at = place_in d.reached.items link here in walking.followed at.0 link (let within = slice_get_within d.reached.items at.0 link at.1 in omega arith) at.1);
+  followed = λ link here. (let at = place_in d.reached.items link here in walking.followed at.0 link (let within = at.1 in omega arith) at.2);
 }
 
 -- ---- what the walk's arguments are
@@ -204,11 +204,11 @@ module _ (tour : Tour) (d : Draft) (settled : IsSettled tour.asked tour.start) (
     | inr reached ↦ (walked.followed (first_of relation) reached).met relation here (inl refl)
   ]
 
-  -- the least link has no earlier format, and the others follow from it
-  least : ((link : ℕ) → link < tour.root → IsGiven tour.start link) → ((f : Format) → Precedes f tour.format → IsBarren tour.asked tour.root f)
+  -- the lowest link has no earlier format, and the others follow from it
+  earliest : ((link : ℕ) → link < tour.root → IsGiven tour.start link) → ((f : Format) → Precedes f tour.format → IsBarren tour.asked tour.root f)
       → (link : ℕ) → IsGiven d link → HasEarlier tour.asked.links tour.asked.wishes relations d.formats.items link → ⊥
-  least lower earlier link is has = elim (walk.origin link is) [
-    | inl start ↦ settled.least link start (record {
+  earliest lower earlier link is has = elim (walk.origin link is) [
+    | inl start ↦ settled.earliest link start (record {
       other = has.other;
       fits = has.fits;
       agrees = λ before less joined. has.agrees before less joined ∙ walk.kept before ((closed_joined tour.asked tour.start settled link before joined).0 start);
@@ -250,10 +250,10 @@ module _ (tour : Tour) (d : Draft) (settled : IsSettled tour.asked tour.start) (
       | inl start ↦ settled.wished link f start (sym (walk.kept link start) ∙ at)
       | inr reached ↦ walk.wished link f reached at
     ];
-    least = least lower earlier;
+    earliest = earliest lower earlier;
   }
 
--- what was settled stays so where the rest is taken back
+-- what was settled stays so if the rest is taken back
 pub settled_again : (asked : Asked) (old new : Draft) → IsSettled asked old → IsRestored old new → IsSettled asked new
 settled_again asked old new settled same = record {
   each_format = same.each_format ∙ settled.each_format;
@@ -273,9 +273,9 @@ settled_again asked old new settled same = record {
       }
       );
   wished = λ link f is at. (let before = (same.given link).0 is in settled.wished link f before (sym (same.formats link before) ∙ at));
-  least = λ link is has. (
+  earliest = λ link is has. (
       let before = (same.given link).0 is in
-      settled.least link before (record {
+      settled.earliest link before (record {
         other = has.other;
         fits = has.fits;
         agrees = λ lower less joined. has.agrees lower less joined ∙ same.formats lower ((closed_joined asked old settled link lower joined).0 before);
@@ -290,7 +290,7 @@ settled_again asked old new settled same = record {
 
 -- ---- one format after another
 
--- the first so many formats don't fit
+-- the first formats don't fit
 pub record Settling (asked : Asked) (root : ℕ) (start now : Draft) (count : ℕ) : Type 0 where
   pub settled : IsSettled asked now
   pub stays : (link : ℕ) → IsGiven start link → IsGiven now link

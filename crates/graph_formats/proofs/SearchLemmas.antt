@@ -1,7 +1,7 @@
--- What can be told by trying all.
+-- What can be decided by trying all.
 use Rattle.std.proofs.Common.{◌≡◌, ◌<◌, ◌⊎◌, ℕ, suc, zero, List, [], ◌∷◌, length, get_or, refl, sym, ap, subst, arith, inl, inr}
 use Rattle.std.specs.List.{Contains}
-use Rattle.std.proofs.lemmas.Bool.{cases_eq, cases_lt}
+use Rattle.std.proofs.lemmas.Bool.{cases_lt}
 use Rattle.std.proofs.lemmas.List.{nil_from_length}
 use Rattle.av_base.specs.declared.sets.TheConstants.{FORMATS}
 use Rattle.av_base.specs.declared.formats.PixelFormat.TheVariants.{Gray}
@@ -9,7 +9,8 @@ use Rattle.av_base.specs.declared.formats.Format.{Format}
 use Rattle.av_base.specs.declared.formats.Format.TheVariants.{Video}
 use Rattle.av_base.specs.FormatSets.{place_of, Precedes}
 use Rattle.av_base.proofs.FormatSetLemmas.{at_place, place_at, place_low}
-use Rattle.graph_formats.proofs.Places.{none_contained, contained_cases}
+use Rattle.av_base.proofs.Arithmetic.{first_or_none}
+use Rattle.av_base.proofs.Lists.{none_contained, contained_cases}
 
 -- it holds, or it doesn't
 abbrev pub Known : Type 0 → Type 0
@@ -38,24 +39,10 @@ pub known_not : {A : Type 0} → Known A → Known (A → ⊥)
 known_not (inl a) = inr (λ f. f a)
 known_not (inr a) = inl a
 
--- the least of so many numbers of which something holds
-abbrev pub IsLeastOf : (ℕ → Type 0) → ℕ → ℕ → Type 0
-IsLeastOf P count k = (k < count) × P k × ((j : ℕ) → j < k → P j → ⊥)
-
-pub least_of : (P : ℕ → Type 0) → ((k : ℕ) → Known (P k)) → (count : ℕ) → ((k : ℕ) × IsLeastOf P count k) ⊎ ((k : ℕ) → k < count → P k → ⊥)
-least_of P known zero = inr (λ k low is. absurd (omega arith))
-least_of P known (suc count) = elim (least_of P known count) [
-  | inl found ↦ inl (found.0, ((let low = found.1.0 in omega arith), found.1.1, found.1.2))
-  | inr none ↦ elim (known count) [
-    | inl is ↦ inl (count, ((omega arith), is, λ j low other. none j low other))
-    | inr not ↦ inr (λ k low is. elim (cases_eq k count) [ inl same ↦ not (subst P same is) | inr apart ↦ none k (omega arith) is ])
-  ]
-]
-
 -- what holds of each number below one
 pub known_below : (P : ℕ → Type 0) → ((k : ℕ) → Known (P k)) → (count : ℕ) → Known ((k : ℕ) → k < count → P k)
-known_below P known count = elim (least_of (λ k. P k → ⊥) (λ k. known_not (known k)) count) [
-  | inl found ↦ inr (λ all. found.1.1 (all found.0 found.1.0))
+known_below P known count = elim (first_or_none (λ k. P k → ⊥) (λ k. (P k → ⊥) → ⊥) (λ k. known_not (known k)) count) [
+  | inl found ↦ inr (λ all. found.2 (all found.0 found.1))
   | inr none ↦ inl (λ k low. elim (known k) [ inl is ↦ is | inr not ↦ absurd (none k low not) ])
 ]
 
@@ -64,19 +51,19 @@ pub known_each : {X : Type 0} (P : X → Type 0) → ((x : X) → Known (P x)) �
 known_each P known [] = inl (λ x here. absurd (none_contained x here))
 known_each {X} P known (y ∷ ys) = elim (known y) [
   | inl first ↦ elim (known_each P known ys) [
-    | inl rest ↦ inl (λ x here. elim (contained_cases y ys x here) [ inl same ↦ subst P same first | inr behind ↦ rest x behind ])
-    | inr not ↦ inr (λ all. not (λ x behind. all x (suc behind.0, (let low = behind.1 in omega arith), behind.2)))
+    | inl rest ↦ inl (λ x here. elim (contained_cases y ys x here) [ inl same ↦ subst P same first | inr later ↦ rest x later ])
+    | inr not ↦ inr (λ all. not (λ x later. all x (suc later.0, (let low = later.1 in omega arith), later.2)))
   ]
   | inr not ↦ inr (λ all. not (all y (0, omega arith, refl)))
 ]
 
 -- a format of which something holds, the first in the format order
 pub first_format : (P : Format → Type 0) → ((f : Format) → Known (P f)) → ((f : Format) × P f × ((g : Format) → Precedes g f → P g → ⊥)) ⊎ ((f : Format) → P f → ⊥)
-first_format P known = elim (least_of (λ k. P (get_or FORMATS k (Video Gray))) (λ k. known (get_or FORMATS k (Video Gray))) 10) [
+first_format P known = elim (first_or_none (λ k. P (get_or FORMATS k (Video Gray))) (λ k. P (get_or FORMATS k (Video Gray)) → ⊥) (λ k. known (get_or FORMATS k (Video Gray))) 10) [
   | inl found ↦ inl (
     get_or FORMATS found.0 (Video Gray),
-    found.1.1,
-    λ g less is. found.1.2 (place_of g) (let here = place_at found.0 (Video Gray) found.1.0 in omega arith) (subst P (sym (at_place g (Video Gray))) is),
+    found.2,
+    λ g less is. found.3 (place_of g) (let here = place_at found.0 (Video Gray) found.1 in omega arith) (subst P (sym (at_place g (Video Gray))) is),
   )
   | inr none ↦ inr (λ f is. none (place_of f) (place_low f) (subst P (sym (at_place f (Video Gray))) is))
 ]
@@ -85,19 +72,19 @@ all_listings : (count : ℕ) (P : List Format → Type 0) → ((f : Format) → 
 all_listings count P none [] e is = absurd (omega arith)
 all_listings count P none (f ∷ rest) e is = none f (rest, (omega arith), is)
 
--- a listing of so many formats of which something holds
+-- a listing of this length of which something holds
 pub some_listing : (count : ℕ) (P : List Format → Type 0) → ((formats : List Format) → Known (P formats)) → ((formats : List Format) × (length formats ≡ count) × P formats) ⊎ ((formats : List Format) → length formats ≡ count → P formats → ⊥)
 some_listing zero P known = elim (known []) [
   | inl is ↦ inl ([], refl, is)
   | inr not ↦ inr (λ formats none is. not (subst P (nil_from_length formats none) is))
 ]
 some_listing (suc count) P known =
-    let Behind : Format → Type 0 = λ f. (rest : List Format) × (length rest ≡ count) × P (f ∷ rest) in
-    let behind : (f : Format) → Known (Behind f) = (λ f. elim (some_listing count (λ rest. P (f ∷ rest)) (λ rest. known (f ∷ rest))) [
+    let After : Format → Type 0 = λ f. (rest : List Format) × (length rest ≡ count) × P (f ∷ rest) in
+    let later : (f : Format) → Known (After f) = (λ f. elim (some_listing count (λ rest. P (f ∷ rest)) (λ rest. known (f ∷ rest))) [
       | inl found ↦ inl found
       | inr none ↦ inr (λ is. none is.0 is.1 is.2)
     ]) in
-    elim (first_format Behind behind) [
+    elim (first_format After later) [
       | inl found ↦ inl (found.0 ∷ found.1.0, ap suc found.1.1, found.1.2)
       | inr none ↦ inr (all_listings count P none)
     ]

@@ -13,15 +13,16 @@ use Rattle.graph_formats.specs.declared.request.Relation.{Relation}
 use Rattle.graph_formats.specs.declared.request.Relation.TheVariants.{Same, WithAlpha}
 use Rattle.graph_formats.specs.declared.request.Wish.{Wish}
 use Rattle.graph_formats.specs.Assignments.{first_of, second_of, with_alpha_of, Relates, Meets, IsWished, AreBelow, IsAssignment, Joined, Itself, Named, Back, Through, IsRoot, FitsPart, HasEarlier, IsChosen, HasNone, IsFirstWithout}
-use Rattle.graph_formats.proofs.Places.{none_contained, contained_cases, get_within}
-use Rattle.graph_formats.proofs.SearchLemmas.{Known, known_along, known_both, known_one, known_three, known_less, known_if, known_not, known_below, known_each, least_of, IsLeastOf, first_format, some_listing}
+use Rattle.av_base.proofs.Arithmetic.{first_or_none}
+use Rattle.av_base.proofs.Lists.{none_contained, contained_cases, get_within}
+use Rattle.graph_formats.proofs.SearchLemmas.{Known, known_along, known_both, known_one, known_three, known_less, known_if, known_not, known_below, known_each, first_format, some_listing}
 use Rattle.graph_formats.proofs.LawLemmas.{fits_joined}
 use Rattle.graph_formats.proofs.WalkLemmas.{relates_forth, relates_back}
 
 -- ---- parts
 
-behind_first : {X : Type 0} (y : X) (xs : List X) (x : X) → Contains xs x → Contains (y ∷ xs) x
-behind_first y xs x here = (suc here.0, (let low = here.1 in omega arith), here.2)
+contains_more : {X : Type 0} (y : X) (xs : List X) (x : X) → Contains xs x → Contains (y ∷ xs) x
+contains_more y xs x here = (suc here.0, (let low = here.1 in omega arith), here.2)
 
 joined_none : (a b : ℕ) → Joined [] a b → a ≡ b
 joined_none _ _ (Itself a) = refl
@@ -31,7 +32,7 @@ joined_none _ _ (Through a b c one two) = joined_none a b one ∙ joined_none b 
 
 joined_more : (r : Relation) (relations : List Relation) (a b : ℕ) → Joined relations a b → Joined (r ∷ relations) a b
 joined_more r relations _ _ (Itself a) = Itself a
-joined_more r relations _ _ (Named relation here) = Named relation (behind_first r relations relation here)
+joined_more r relations _ _ (Named relation here) = Named relation (contains_more r relations relation here)
 joined_more r relations _ _ (Back a b joined) = Back a b (joined_more r relations a b joined)
 joined_more r relations _ _ (Through a b c one two) = Through a b c (joined_more r relations a b one) (joined_more r relations b c two)
 
@@ -71,7 +72,7 @@ joined_bridged r relations _ _ (Named relation here) = elim (contained_cases r r
     subst (λ (x : Relation). Joined relations (first_of x) (first_of r)) same (Itself (first_of r)),
     subst (λ (x : Relation). Joined relations (second_of r) (second_of x)) same (Itself (second_of r)),
   ))
-  | inr behind ↦ inl (Named relation behind)
+  | inr later ↦ inl (Named relation later)
 ]
 joined_bridged r relations _ _ (Back a b joined) = bridged_back r relations a b (joined_bridged r relations a b joined)
 joined_bridged r relations _ _ (Through a b c one two) = bridged_on r relations a b c (joined_bridged r relations a b one) (joined_bridged r relations b c two)
@@ -136,7 +137,7 @@ known_at Q known (Some x) = elim (known x) [
 
 -- ---- listings
 
--- what a function gives for so many numbers from one on
+-- what a function gives for numbers from one on, as many as given
 pub tabulate : (ℕ → Format) → ℕ → ℕ → List Format
 tabulate f from zero = []
 tabulate f from (suc count) = f from ∷ tabulate f (suc from) count
@@ -203,7 +204,7 @@ module _ (links : ℕ) (wishes : List Wish) (relations : List Relation) where
   -- the listing fits, and no other has an earlier format at the link
   record IsBest (link : ℕ) (formats : List Format) : Type 0 where
     pub fits : FitsPart links wishes relations link formats
-    pub least : (f g : Format) → slice_get formats link ≡ Some f → Precedes g f → FitsWith link g → ⊥
+    pub earliest : (f g : Format) → slice_get formats link ≡ Some f → Precedes g f → FitsWith link g → ⊥
 
   best : (link : ℕ) → link < links → ((formats : List Format) → FitsPart links wishes relations link formats → ⊥) ⊎ IsBest link (listing_of link (found link))
   unfolding listing_of
@@ -211,25 +212,25 @@ module _ (links : ℕ) (wishes : List Wish) (relations : List Relation) where
     at : (s : Found link) → ((formats : List Format) → FitsPart links wishes relations link formats → ⊥) ⊎ IsBest link (listing_of link s)
     at (inl found) = inr (record {
       fits = found.1.1;
-      least = λ f g at less with. found.2 g (subst (λ (x : Format). Precedes g x) (same_Some f found.0 (sym at ∙ found.1.2)) less) with;
+      earliest = λ f g at less with. found.2 g (subst (λ (x : Format). Precedes g x) (same_Some f found.0 (sym at ∙ found.1.2)) less) with;
     })
     at (inr none) = inl (λ formats fits. let at = get_within formats link (let each = fits.each in omega arith) in none at.0 (formats, fits, at.1))
 
-  -- ---- the least link of a part
+  -- ---- the lowest link of a part
 
-  least_joined : (link : ℕ) → ((k : ℕ) × IsLeastOf (λ other. Joined relations link other) (suc link) k) ⊎ ((k : ℕ) → k < suc link → Joined relations link k → ⊥)
-  least_joined link = least_of (λ other. Joined relations link other) (λ other. known_joined relations link other) (suc link)
+  lowest_joined : (link : ℕ) → ((k : ℕ) × (k < suc link) × Joined relations link k × ((j : ℕ) → j < k → Joined relations link j → ⊥)) ⊎ ((k : ℕ) → k < suc link → Joined relations link k → ⊥)
+  lowest_joined link = first_or_none (λ other. Joined relations link other) (λ other. Joined relations link other → ⊥) (λ other. known_joined relations link other) (suc link)
 
   root_of : ℕ → ℕ
-  root_of link = elim (least_joined link) [ inl found ↦ found.0 | inr none ↦ link ]
+  root_of link = elim (lowest_joined link) [ inl found ↦ found.0 | inr none ↦ link ]
 
   root_joined : (link : ℕ) → Joined relations link (root_of link) × IsRoot relations (root_of link)
   unfolding root_of
-  root_joined link = elim (least_joined link) as (λ s. let root : ℕ = elim s [ inl found ↦ found.0 | inr none ↦ link ] in Joined relations link root × IsRoot relations root) [
+  root_joined link = elim (lowest_joined link) as (λ s. let root : ℕ = elim s [ inl found ↦ found.0 | inr none ↦ link ] in Joined relations link root × IsRoot relations root) [
     | inl found ↦ (
-      found.1.1,
+      found.2,
       λ other joined. elim (cases_lt other found.0) [
-        | inl low ↦ absurd (found.1.2 other low (Through link found.0 other found.1.1 joined))
+        | inl low ↦ absurd (found.3 other low (Through link found.0 other found.2 joined))
         | inr not_low ↦ omega arith
       ],
     )
@@ -245,7 +246,7 @@ module _ (links : ℕ) (wishes : List Wish) (relations : List Relation) where
       let two = (root_joined b).1 (root_of a) (Through (root_of b) b (root_of a) (Back b (root_of b) (root_joined b).0) (Through b a (root_of a) (Back a b joined) (root_joined a).0)) in
       omega arith
 
-  -- ---- listings that fit a part with one format at its least link
+  -- ---- listings that fit a part with one format at its lowest link
 
   determined : (root : ℕ) (x y : List Format) → FitsPart links wishes relations root x → FitsPart links wishes relations root y → (a b : ℕ) → Joined relations a b → Joined relations root a
       → (slice_get x a ≡ slice_get y a) ↔ (slice_get x b ≡ slice_get y b)
@@ -322,9 +323,9 @@ module _ (links : ℕ) (wishes : List Wish) (relations : List Relation) where
           );
     }
 
-    picked_least : (link : ℕ) → HasEarlier links wishes relations picked link → ⊥
+    picked_earliest : (link : ℕ) → HasEarlier links wishes relations picked link → ⊥
     unfolding picked
-    picked_least link has =
+    picked_earliest link has =
         let low : link < links = (let within = slice_get_within picked link has.here has.is_here in let each = length-tabulate pick 0 links in omega arith) in
         let root = root_of link in
         let joined = (root_joined link).0 in
@@ -333,7 +334,7 @@ module _ (links : ℕ) (wishes : List Wish) (relations : List Relation) where
         let fits = fits_joined links wishes relations link root has.other joined has.fits in
         let here : slice_get listing link ≡ Some has.here = sym (picked_at link low) ∙ has.is_here in
         elim (cases_eq root link) [
-          | inl same ↦ is.least has.here has.earlier (ap (slice_get listing) same ∙ here) has.precedes (has.other, fits, ap (slice_get has.other) same ∙ has.is_earlier)
+          | inl same ↦ is.earliest has.here has.earlier (ap (slice_get listing) same ∙ here) has.precedes (has.other, fits, ap (slice_get has.other) same ∙ has.is_earlier)
           | inr apart ↦ (
               let less : root < link = (let most = root_low link in omega arith) in
               let again : root_of root ≡ root = sym (same_root link root joined) in
@@ -348,7 +349,7 @@ module _ (links : ℕ) (wishes : List Wish) (relations : List Relation) where
         ]
 
   pub one_of_both : AreBelow links wishes relations → ((formats : List Format) × IsChosen links wishes relations formats) ⊎ ((link : ℕ) × IsFirstWithout links wishes relations link)
-  one_of_both below = elim (least_of (HasNone links wishes relations) known_none links) [
-    | inl found ↦ inr (found.0, record { without = found.1.1; first = found.1.2 })
-    | inr all ↦ inl (picked, record { assignment = picked_all below all; least = picked_least below all })
+  one_of_both below = elim (first_or_none (HasNone links wishes relations) (λ k. HasNone links wishes relations k → ⊥) known_none links) [
+    | inl found ↦ inr (found.0, record { without = found.2; first = found.3 })
+    | inr all ↦ inl (picked, record { assignment = picked_all below all; earliest = picked_earliest below all })
   ]

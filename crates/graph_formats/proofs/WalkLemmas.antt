@@ -16,10 +16,10 @@ use Rattle.graph_formats.specs.declared.ties.Tie.{Tie}
 use Rattle.graph_formats.specs.declared.ties.Ties.{Ties}
 use Rattle.graph_formats.specs.declared.draft.Draft.{Draft}
 use Rattle.graph_formats.specs.Assignments.{first_of, second_of, with_alpha_of, Relates, Meets, IsWished, Joined, Named, Back, Through, FitsPart}
-use Rattle.graph_formats.specs.Demands.{Names, IsListed, Here, Behind, head_of, AreTied, AreDemands, Asked}
+use Rattle.graph_formats.specs.Demands.{Names, IsListed, Here, After, head_of, AreTied, AreDemands, Asked}
 use Rattle.graph_formats.specs.declared.demands.Demands.{Demands}
 use Rattle.graph_formats.specs.Walks.{IsAcross, IsApart, IsGiven, HasMore, Gave, IsBarren, Tour, IsWalk, IsFollowed, Extends, AreUnmarked, IsRestored}
-use Rattle.graph_formats.proofs.Places.{get_set_same, get_set_other, none_contained}
+use Rattle.av_base.proofs.Lists.{get_set_same, get_set_other, none_contained}
 use Rattle.graph_formats.proofs.DemandLemmas.{listed_cases}
 
 -- ---- one relation
@@ -51,7 +51,7 @@ pub relates_back : (relation : Relation) (f g h : Format) → Relates relation f
 relates_back (Same a b) f g h p q = p ∙ sym q
 relates_back (WithAlpha plain alpha) f g h p q = taken_away f h p ∙ sym (taken_away g h q)
 
--- where a relation is met, the format of its one link is that which goes with the other's
+-- if a relation is met, the format of its one link is that which goes with the other's
 across_forced : (relation : Relation) (link other : ℕ) (f g : Format) (formats : List Format)
     → IsAcross relation link f other g → Meets relation formats → slice_get formats link ≡ Some f → slice_get formats other ≡ Some g
 across_forced relation link other f g formats (inl forth) met at =
@@ -65,7 +65,7 @@ across_forced relation link other f g formats (inr forth) met at =
     let same : met.first ≡ g = relates_back relation met.first g f (subst P second met.relates) forth.2 in
     ap (slice_get formats) (sym forth.1) ∙ (met.is_first ∙ ap (λ (x : Format). Some x) same)
 
--- where the formats go with each other, the relation is met
+-- if the formats go with each other, the relation is met
 across_met : (relation : Relation) (link other : ℕ) (f g : Format) (formats : List Format)
     → IsAcross relation link f other g → slice_get formats link ≡ Some f → slice_get formats other ≡ Some g → Meets relation formats
 across_met relation link other f g formats (inl forth) here there = record {
@@ -256,9 +256,9 @@ pub record Following (tour : Tour) (old : Draft) (ties : Ties) (link : ℕ) (f :
       → IsDone now relation ⊎ ((place : ℕ) × (tie : Tie) × IsListed ties.ties.items next place × (slice_get ties.ties.items place ≡ Some tie) × (tie.relation ≡ relation))
 
 -- how far the places from here on go down
-abbrev pub behind : Option ℕ → ℕ
-behind None = 0
-behind (Some place) = place + 1
+abbrev pub depth : Option ℕ → ℕ
+depth None = 0
+depth (Some place) = place + 1
 
 done_here : (d : Draft) (relation : Relation) (link other : ℕ) (f g : Format) → IsAcross relation link f other g → IsGiven d link → IsGiven d other
     → slice_get d.formats.items link ≡ Some f → slice_get d.formats.items other ≡ Some g → IsDone d relation
@@ -295,9 +295,9 @@ following_start tour old ties link f next walk tied reached format begin = recor
       );
 }
 
-behind_less : (next : Option ℕ) (place : ℕ) → ((lower : ℕ) → next ≡ Some lower → lower < place) → behind next < place + 1
-behind_less None place less = omega arith
-behind_less (Some lower) place less = let below = less lower refl in omega arith
+depth_less : (next : Option ℕ) (place : ℕ) → ((lower : ℕ) → next ≡ Some lower → lower < place) → depth next < place + 1
+depth_less None place less = omega arith
+depth_less (Some lower) place less = let below = less lower refl in omega arith
 
 -- the relation at the place where the list begins
 module _ (tour : Tour) (old : Draft) (demands : Demands) (link : ℕ) (f : Format) (next : Option ℕ) (place : ℕ) (now : Draft) (tie : Tie)
@@ -309,8 +309,8 @@ module _ (tour : Tour) (old : Draft) (demands : Demands) (link : ℕ) (f : Forma
   at : slice_get demands.ties.ties.items place ≡ Some tie
   at = slice_get_read demands.ties.ties.items (length demands.ties.ties.items) place tie refl (following.begins place refl) read
 
-  pub tie_less : behind tie.next < behind next
-  tie_less = rw is (behind_less tie.next place (λ lower e. asks.ties.falls place lower tie at e))
+  pub tie_less : depth tie.next < depth next
+  tie_less = rw is (depth_less tie.next place (λ lower e. asks.ties.falls place lower tie at e))
 
   pub tie_known : Contains tour.asked.relations tie.relation × Names tie.relation link
   tie_known = asks.ties.only link tie.relation (record { place = place; listed = following.ours place (Here place); tie = tie; is_tie = at; is_relation = refl })
@@ -318,7 +318,7 @@ module _ (tour : Tour) (old : Draft) (demands : Demands) (link : ℕ) (f : Forma
   link_joined : Joined tour.asked.relations tour.root link
   link_joined = following.walk.joined link following.reached
 
-  -- a listing that fits the part with the format at its least link
+  -- a listing that fits the part with the format at its lowest link
   abbrev Fitting : List Format → Type 0
   Fitting formats = FitsPart tour.asked.links tour.asked.wishes tour.asked.relations tour.root formats × (slice_get formats tour.root ≡ Some tour.format)
 
@@ -374,7 +374,7 @@ module _ (tour : Tour) (old : Draft) (demands : Demands) (link : ℕ) (f : Forma
           reached = extends_reached now new link more.1 following.reached;
           format = more.1.formats link (following.walk.given link following.reached) ∙ following.format;
           begins = λ lower e. (let less = asks.ties.falls place lower tie at e in let within = following.begins place refl in omega arith);
-          ours = λ found listed. following.ours found (Behind place found tie at listed);
+          ours = λ found listed. following.ours found (After place found tie at listed);
           left = λ relation here names. elim (following.left relation here names) [
             | inl done ↦ inl (done_stays now new relation more.1 done)
             | inr rest ↦ (

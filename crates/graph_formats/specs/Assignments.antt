@@ -30,7 +30,7 @@ with_alpha_of (Video Yuv422p) = Some (Video Yuva422p)
 with_alpha_of (Video Yuv444p) = Some (Video Yuva444p)
 with_alpha_of f = None
 
--- what a relation says of the formats of its two links
+-- the formats of a relation's two links meet it
 abbrev pub Relates : Relation → Format → Format → Type 0
 Relates (Same a b) f g = f ≡ g
 Relates (WithAlpha plain alpha) f g = with_alpha_of f ≡ Some g
@@ -47,15 +47,15 @@ pub record Meets (relation : Relation) (formats : List Format) : Type 0 where
 abbrev pub IsWished : List Wish → ℕ → Format → Type 0
 IsWished wishes link f = (set : FormatSet) → Contains wishes (record { link = link; set = set }) → Has set f
 
--- every link that a wish names is one of so many
+-- every link that a wish names is below the number of links
 abbrev pub AreWishesBelow : ℕ → List Wish → Type 0
 AreWishesBelow links wishes = (wish : Wish) → Contains wishes wish → wish.link < links
 
--- every link that a relation names is one of so many
+-- every link that a relation names is below the number of links
 abbrev pub AreRelationsBelow : ℕ → List Relation → Type 0
 AreRelationsBelow links relations = (relation : Relation) → Contains relations relation → (first_of relation < links) × (second_of relation < links)
 
--- every link that a wish or a relation names is one of so many
+-- every link that a wish or a relation names is below the number of links
 pub record AreBelow (links : ℕ) (wishes : List Wish) (relations : List Relation) : Type 0 where
   pub wishes_below : AreWishesBelow links wishes
   pub relations_below : AreRelationsBelow links relations
@@ -77,7 +77,7 @@ pub data Joined (relations : List Relation) : ℕ → ℕ → Type 0 where
   Back : (a b : ℕ) → Joined relations a b → Joined relations b a
   Through : (a b c : ℕ) → Joined relations a b → Joined relations b c → Joined relations a c
 
--- the link is the least of its part
+-- the link is the lowest of its part
 abbrev pub IsRoot : List Relation → ℕ → Type 0
 IsRoot relations link = (other : ℕ) → Joined relations link other → link ≤ other
 
@@ -100,39 +100,39 @@ pub record HasEarlier (links : ℕ) (wishes : List Wish) (relations : List Relat
   pub is_earlier : slice_get other link ≡ Some earlier
   pub precedes : Precedes earlier here
 
--- the assignment that is, in each part, the least, compared link by link from the part's least link
+-- the assignment that is the first in each part, compared link by link from the part's lowest link on
 pub record IsChosen (links : ℕ) (wishes : List Wish) (relations : List Relation) (formats : List Format) : Type 0 where
   pub assignment : IsAssignment links wishes relations formats
-  pub least : (link : ℕ) → ¬ HasEarlier links wishes relations formats link
+  pub earliest : (link : ℕ) → ¬ HasEarlier links wishes relations formats link
 
 -- ---- the fault
 
--- the link is the least of a part that nothing fits
+-- the link is the lowest of a part that nothing fits
 pub record HasNone (links : ℕ) (wishes : List Wish) (relations : List Relation) (link : ℕ) : Type 0 where
   pub below : link < links
   pub root : IsRoot relations link
   pub none : (formats : List Format) → ¬ FitsPart links wishes relations link formats
 
--- the least link of the first such part
+-- the lowest link of the first such part
 pub record IsFirstWithout (links : ℕ) (wishes : List Wish) (relations : List Relation) (link : ℕ) : Type 0 where
   pub without : HasNone links wishes relations link
   pub first : (other : ℕ) → other < link → ¬ HasNone links wishes relations other
 
--- ---- what a call answers
+-- ---- what a call returns
 
--- a fault that was answered
+-- a fault, if one was returned
 abbrev pub IfFault : {X : Type 0} → Result X FormatError → (ℕ → Type 0) → Type 0
 IfFault (Ok x) P = Unit {0}
 IfFault (Err (NoCommonFormat link)) P = P link
 IfFault (Err NoMemory) P = Unit {0}
 
--- these formats, or want of memory
+-- these formats, or out of memory
 abbrev pub Gives : List Format → Result (List Format) FormatError → Type 0
 Gives formats (Ok given) = given ≡ formats
 Gives formats (Err (NoCommonFormat link)) = ⊥
 Gives formats (Err NoMemory) = Unit {0}
 
--- the fault at this link, or want of memory
+-- the fault at this link, or out of memory
 abbrev pub Refuses : {X : Type 0} → ℕ → Result X FormatError → Type 0
 Refuses link (Ok given) = ⊥
 Refuses link (Err (NoCommonFormat named)) = named ≡ link
@@ -140,7 +140,7 @@ Refuses link (Err NoMemory) = Unit {0}
 
 -- ---- the law
 
--- there is one chosen assignment at most, one fault at most, no assignment beside a fault, and a chosen one or a fault is there
+-- there is exactly one chosen assignment or exactly one fault, and no assignment if there is a fault
 pub record FormatsAreChosenInOneWay : Type 0 where
   pub one_assignment : (links : ℕ) (wishes : List Wish) (relations : List Relation) (a b : List Format)
       → IsChosen links wishes relations a → IsChosen links wishes relations b → a ≡ b

@@ -1,4 +1,4 @@
--- What contracts inside the crate say of wishes and relations by link.
+-- Wishes and relations by link, as contracts inside the crate see them.
 use Rattle.std.specs.Prelude.{◌≡◌, ◌<◌, ◌⊎◌, ◌↔◌, ◌++◌, ℕ, List, [], ◌∷◌, Option, Some, None, length, map, suc, slice_index_or, set}
 use Rattle.std.specs.List.{slice_get, Contains}
 use Rattle.av_base.specs.declared.formats.Format.{Format}
@@ -27,9 +27,9 @@ Names relation link = (first_of relation ≡ link) ⊎ (second_of relation ≡ l
 -- a place is in the list that begins at a place, if it begins
 pub data IsListed (ties : List Tie) : Option ℕ → ℕ → Type 0 where
   Here : (place : ℕ) → IsListed ties (Some place) place
-  Behind : (place found : ℕ) (tie : Tie) → slice_get ties place ≡ Some tie → IsListed ties tie.next found → IsListed ties (Some place) found
+  After : (place found : ℕ) (tie : Tie) → slice_get ties place ≡ Some tie → IsListed ties tie.next found → IsListed ties (Some place) found
 
--- where the list of a link begins
+-- the place where the list of a link begins
 abbrev pub head_of : Ties → ℕ → Option ℕ
 head_of all link = slice_index_or all.heads.items link None
 
@@ -41,7 +41,7 @@ pub record HasTie (all : Ties) (link : ℕ) (relation : Relation) : Type 0 where
   pub is_tie : slice_get all.ties.items place ≡ Some tie
   pub is_relation : tie.relation ≡ relation
 
--- the lists of so many links have the relations that belong to them and no others, and go on to lower places
+-- the lists of all links have the relations that belong to them and no others, and go on to lower places
 pub record AreLists (links : ℕ) (Belongs : ℕ → Relation → Type 0) (all : Ties) : Type 0 where
   pub each : length all.heads.items ≡ links
   pub listed : (link : ℕ) (relation : Relation) → Belongs link relation → HasTie all link relation

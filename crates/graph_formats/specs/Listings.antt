@@ -1,4 +1,4 @@
--- What the tests' plain choice says of listings of formats.
+-- Listings of formats, as the plain choice of the tests sees them.
 use Rattle.std.specs.Prelude.{◌≡◌, ◌<◌, ◌++◌, ℕ, List, Bool, true, false, Some}
 use Rattle.std.specs.List.{slice_get}
 use Rattle.av_base.specs.declared.formats.Format.{Format}
@@ -11,7 +11,7 @@ use Rattle.graph_formats.specs.Assignments.{IsWished, IsAssignment}
 abbrev pub AreWished : List Wish → List Format → Type 0
 AreWished wishes formats = (link : ℕ) (f : Format) → slice_get formats link ≡ Some f → IsWished wishes link f
 
--- the one listing stands before the other: where they differ first, its format stands before the other's
+-- the one listing comes before the other: at the first difference its format comes before the other's
 pub record IsBefore (one other : List Format) : Type 0 where
   pub place : ℕ
   pub agrees : (lower : ℕ) → lower < place → slice_get one lower ≡ slice_get other lower

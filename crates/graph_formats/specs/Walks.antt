@@ -1,4 +1,4 @@
--- What contracts inside the crate say of the search for formats.
+-- The search for formats, as contracts inside the crate see it.
 use Rattle.std.specs.Prelude.{◌≡◌, ◌≢◌, ◌+◌, ◌⊎◌, ◌↔◌, ◌++◌, ℕ, List, [], ◌∷◌, Bool, true, false, not, Some, length, set, slice_index_or}
 use Rattle.std.specs.List.{slice_get, Contains, count_by}
 use Rattle.av_base.specs.declared.formats.Format.{Format}
@@ -47,7 +47,7 @@ pub record IsSettled (asked : Asked) (d : Draft) : Type 0 where
   pub closed : (relation : Relation) → Contains asked.relations relation → IsGiven d (first_of relation) ↔ IsGiven d (second_of relation)
   pub met : (relation : Relation) → Contains asked.relations relation → IsGiven d (first_of relation) → Meets relation d.formats.items
   pub wished : (link : ℕ) (f : Format) → IsGiven d link → slice_get d.formats.items link ≡ Some f → IsWished asked.wishes link f
-  pub least : (link : ℕ) → IsGiven d link → ¬ HasEarlier asked.links asked.wishes asked.relations d.formats.items link
+  pub earliest : (link : ℕ) → IsGiven d link → ¬ HasEarlier asked.links asked.wishes asked.relations d.formats.items link
 
 -- no listing that fits a link's part has the format at the link
 abbrev pub IsBarren : Asked → ℕ → Format → Type 0
@@ -55,7 +55,7 @@ IsBarren asked link f = (formats : List Format) → FitsPart asked.links asked.w
 
 -- ---- a walk through a part
 
--- a walk from the least link of a part, with a format there, and the draft before it
+-- a walk from the lowest link of a part, with a format there, and the draft before it
 pub record Tour : Type 0 where
   pub asked : Asked
   pub root : ℕ
@@ -66,7 +66,7 @@ pub record Tour : Type 0 where
 abbrev pub Begins : Tour → ℕ → Format → Draft → Type 0
 Begins tour root format start = (tour.root ≡ root) × (tour.format ≡ format) × (tour.start ≡ start)
 
--- each listing that fits the part and has the format at the least link has these formats
+-- each listing that fits the part and has the format at the lowest link has these formats
 abbrev pub AreForced : Tour → Draft → ℕ → Type 0
 AreForced tour d link = (formats : List Format) → FitsPart tour.asked.links tour.asked.wishes tour.asked.relations tour.root formats
     → slice_get formats tour.root ≡ Some tour.format → slice_get formats link ≡ slice_get d.formats.items link

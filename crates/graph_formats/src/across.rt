@@ -32,7 +32,7 @@ fn without_alpha(format: Format) -> Option<Format>
     }
 }
 
-/// The other link of a relation that names a link, and the format that it has where the link has this one.
+/// The other link of a relation that names a link, and the format that it has if the link has this one.
 pub(crate) fn across(relation: Relation, link: u32, format: Format) -> Option<(u32, Format)>
     requires { Names relation link }
     ensures { MatchOption result (IsApart relation link format) (λ o. IsAcross relation link format o.0 o.1) }

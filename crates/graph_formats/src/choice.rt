@@ -9,14 +9,13 @@ use crate::request::{FormatError, Relation, Wish};
 use av_base::{Format, List};
 use std::alloc::Global;
 
-/// A format for each of so many links: the chosen ones among those that meet all wishes and relations.
+/// A format for each of `links` links: the chosen ones among those that meet all wishes and relations.
 ///
-/// Links that a chain of relations joins form a part. In each part the formats are the least, compared link by link
-/// from its least link on, by the format order. Each link that a wish or a relation names is one of so many.
+/// Links that a chain of relations joins form a part. In each part the formats are the first ones, compared link by
+/// link from its lowest link on, by the format order. Each link that a wish or a relation names is below `links`.
 ///
 /// # Errors
-///
-/// `NoCommonFormat` of the least link of the first part that has no such formats. Or want of memory.
+/// `NoCommonFormat` at the lowest link of the first part that has no such formats. Or out of memory.
 pub fn choose(
     alloc: Global,
     links: u32,

@@ -11,13 +11,13 @@ use std::alloc::Global;
 /// What is asked, by link.
 #[derive(Drop)]
 pub(crate) struct Demands {
-    /// The formats that lie in every wish for a link.
+    /// The formats that are in every wish for a link.
     pub(crate) sets: Vec<FormatSet>,
     /// The relations of a link.
     pub(crate) ties: Ties,
 }
 
-/// For each of so many links, the formats that lie in every wish for it.
+/// For each link, the formats that are in every wish for it.
 fn narrow(alloc: Global, links: u32, wishes: &[Wish]) -> Result<Vec<FormatSet>, NoMemory>
     requires { AreWishesBelow links wishes.now }
     ensures { IfOk result (λ sets. AreNarrowed links wishes.now sets.items) }
@@ -32,7 +32,7 @@ fn narrow(alloc: Global, links: u32, wishes: &[Wish]) -> Result<Vec<FormatSet>, 
 }
 
 impl Demands {
-    /// What these wishes and relations ask of so many links.
+    /// What these wishes and relations ask of this number of links.
     pub(crate) fn new(
         alloc: Global,
         links: u32,

@@ -14,7 +14,7 @@ use std::alloc::Global;
 /// Formats as far as they are given.
 #[derive(Drop)]
 pub(crate) struct Draft {
-    /// A format for each link, which counts where the link is given one.
+    /// A format for each link. It counts only if the link is given one.
     pub(crate) formats: Vec<Format>,
     /// Which links are given their format.
     pub(crate) given: Vec<bool>,
@@ -33,7 +33,7 @@ fn unmark(marks: &mut [bool], links: &[u32])
 }
 
 impl Draft {
-    /// No formats for so many links.
+    /// A draft for this number of links, none of which is given a format.
     pub(crate) fn new(alloc: Global, links: u32) -> Result<Draft, NoMemory>
         ensures each { IfOk result (λ d. length d.formats.items ≡ links) }
         ensures none { IfOk result (λ d. d.given.items ≡ replicate links false) }
@@ -48,7 +48,7 @@ impl Draft {
         })
     }
 
-    /// Gives a link a format, and says whether it can have it: it has it, or it has none yet and the set has it.
+    /// Gives a link a format. Returns whether it can have it: it has it already, or it has none and the set has it.
     fn give(&mut self, set: FormatSet, link: u32, format: Format) -> Result<bool, NoMemory>
         requires formats { link < length self.old.formats.items }
         requires marks { link < length self.old.given.items }
@@ -67,7 +67,7 @@ impl Draft {
         Ok(true)
     }
 
-    /// Gives the links that the relations of a link name the formats that follow from its own, and says whether they can
+    /// Gives the links that the relations of a link name the formats that follow from its own. Returns whether they can
     /// have them.
     fn follow(&mut self, demands: &Demands, link: u32) -> Result<bool, NoMemory>
         ghost tour: { Tour }
@@ -95,7 +95,7 @@ impl Draft {
         Ok(true)
     }
 
-    /// Gives the links of a part the formats that follow from one at its least link, and says whether they can have them.
+    /// Gives the links of a part the formats that follow from one at its lowest link. Returns whether they can have them.
     fn walk(&mut self, demands: &Demands, root: u32, format: Format) -> Result<bool, NoMemory>
         ghost tour: { Tour }
         requires begins { Begins tour root format self.old }
@@ -123,7 +123,7 @@ impl Draft {
         Ok(true)
     }
 
-    /// Takes their formats from the links that the walk came to.
+    /// Takes the formats back from the links that the walk came to.
     fn forget(&mut self)
         ghost tour: { Tour }
         requires walk { IsWalk tour self.old }
@@ -134,8 +134,8 @@ impl Draft {
         unmark(&mut self.given, &self.reached);
     }
 
-    /// Gives the links of a part their formats where they have some with this one at its least link, and says whether
-    /// they do.
+    /// Gives the links of a part their formats, if they have some with this one at its lowest link. Returns whether they
+    /// have.
     fn attempt(&mut self, demands: &Demands, root: u32, format: Format) -> Result<bool, NoMemory>
         ghost tour: { Tour }
         requires begins { Begins tour root format self.old }
@@ -158,7 +158,7 @@ impl Draft {
         Ok(fits)
     }
 
-    /// Gives the links of a part their formats, and says whether they have some.
+    /// Gives the links of a part their formats. Returns whether they have some.
     pub(crate) fn settle(&mut self, demands: &Demands, root: u32) -> Result<bool, NoMemory>
         requires settled { IsSettled (asked_of demands.now) self.old }
         requires demands { AreDemands (asked_of demands.now) demands.now }

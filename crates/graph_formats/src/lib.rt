@@ -1,4 +1,4 @@
-//! The formats of links: the least ones that meet all wishes and relations.
+//! The formats of links: the first ones, by the format order, that meet all wishes and relations.
 #![tactic(auto)]
 
 mod across;

@@ -50,10 +50,10 @@ pub struct Wish {
 pub enum FormatError {
     /// The links that relations join to this one have no formats that are as asked.
     NoCommonFormat {
-        /// The least link of the first such part.
+        /// The lowest link of the first such part.
         link: u32,
     },
-    /// Want of memory.
+    /// Out of memory.
     NoMemory,
 }
 

@@ -11,7 +11,7 @@ use crate::request::{Relation, Wish};
 use av_base::{FORMATS, Format};
 use std::alloc::{AllocError, Global};
 
-/// Whether the format of each link lies in every wish for it.
+/// Whether the format of each link is in every wish for it.
 fn are_wished(wishes: &[Wish], formats: &[Format]) -> bool
     requires { AreWishesBelow (length formats.now) wishes.now }
     ensures { IsTrue result ↔ AreWished wishes.now formats.now }
@@ -60,7 +60,7 @@ fn is_assignment(wishes: &[Wish], relations: &[Relation], formats: &[Format]) ->
     are_wished(wishes, formats) && are_met(relations, formats)
 }
 
-/// Completes a listing by the first formats with which it meets all wishes and relations, and says whether there are
+/// Completes a listing by the first formats with which it meets all wishes and relations. Returns whether there are
 /// some.
 fn complete(
     formats: &mut Vec<Format>,

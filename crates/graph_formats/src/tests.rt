@@ -46,14 +46,14 @@ fn wish(link: u32, formats: &[Format]) -> Wish {
     Wish { link, set }
 }
 
-/// Whether each link that the wishes name is one of so many.
+/// Whether each link that the wishes name is below `links`.
 fn are_wishes_below(links: u32, wishes: &[Wish]) -> bool
     ensures { IsTrue result → AreWishesBelow links wishes.now }
 {
     wishes.iter().all(|wish| wish.link < links)
 }
 
-/// Whether each link that the relations name is one of so many.
+/// Whether each link that the relations name is below `links`.
 fn are_relations_below(links: u32, relations: &[Relation]) -> bool
     ensures { IsTrue result → AreRelationsBelow links relations.now }
 {
@@ -63,7 +63,7 @@ fn are_relations_below(links: u32, relations: &[Relation]) -> bool
     })
 }
 
-/// Whether each link that the wishes and the relations name is one of so many.
+/// Whether each link that the wishes and the relations name is below `links`.
 fn are_below(links: u32, wishes: &List<Wish>, relations: &List<Relation>) -> bool
     ensures { IsTrue result → AreBelow links wishes.now relations.now }
 {
@@ -83,7 +83,7 @@ fn lists(
     Ok((List::new(all), List::new(ties)))
 }
 
-/// What is chosen for so many links, or none where a link is none of these.
+/// What is chosen for this number of links, or none if a wish or relation names another link.
 fn chosen(
     alloc: Global,
     links: u32,
@@ -176,7 +176,7 @@ fn links_take_the_first_format_that_all_wishes_have(rt: HostRuntime) -> Result<(
 }
 
 #[test]
-fn links_with_alpha_follow_from_the_least_link(rt: HostRuntime) -> Result<(), Fail> {
+fn links_with_alpha_follow_from_the_lowest_link(rt: HostRuntime) -> Result<(), Fail> {
     let alloc = rt.alloc();
     assert!(rt; gives(alloc, &[], &[alpha(0, 1)], &[YUV420, YUVA420])?);
     assert!(rt; gives(alloc, &[], &[alpha(1, 0)], &[YUVA420, YUV420])?);
@@ -208,7 +208,7 @@ fn links_with_alpha_follow_from_the_least_link(rt: HostRuntime) -> Result<(), Fa
 }
 
 #[test]
-fn the_least_link_of_the_first_part_without_formats_is_named(rt: HostRuntime) -> Result<(), Fail> {
+fn the_lowest_link_of_the_first_part_without_formats_is_named(rt: HostRuntime) -> Result<(), Fail> {
     let alloc = rt.alloc();
     assert!(rt; refuses(alloc, &[wish(3, &[])], &[], 3)?);
     let wishes = [wish(2, &[YUV420]), wish(2, &[GRAY])];

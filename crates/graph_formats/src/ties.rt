@@ -19,7 +19,7 @@ pub(crate) struct Tie {
 /// The relations of each link: lists that go through one vector.
 #[derive(Drop)]
 pub(crate) struct Ties {
-    /// Where the list of each link begins, if it has a relation.
+    /// The place where the list of each link begins, if it has a relation.
     pub(crate) heads: Vec<Option<usize>>,
     /// The ties of all links.
     pub(crate) ties: Vec<Tie>,
@@ -49,7 +49,7 @@ impl Ties {
         self.tie(second, relation)
     }
 
-    /// The ties of so many links.
+    /// The ties of this number of links.
     pub(crate) fn new(alloc: Global, links: u32, relations: &[Relation]) -> Result<Ties, NoMemory>
         requires { AreRelationsBelow links relations.now }
         ensures { IfOk result (AreTied links relations.now) }

@@ -18,10 +18,11 @@ use Rattle.graph_plan.specs.declared.order.Neighbours.{Neighbours}
 use Rattle.graph_plan.specs.declared.order.Progress.{Progress}
 use Rattle.graph_plan.specs.declared.order.Arranged.{Arranged}
 use Rattle.graph_plan.specs.declared.order.Arranged.TheVariants.{Cycle}
-use Rattle.graph_plan.specs.Least.{IsLeast}
+use Rattle.av_base.specs.First.{IsFirst}
+use Rattle.av_base.proofs.Lists.{get_within, contained, contained_cases, place_of}
+use Rattle.av_base.proofs.Arithmetic.{first_along}
 use Rattle.graph_plan.specs.Orders.{Feeds, LeadsTo, Directly, Through, Reaches, IsReady, Comes, IsOrder, AreBelow}
 use Rattle.graph_plan.specs.Arranging.{IsArranged, Has, HasAll, IsMarked, IsAlong, AreRows, AreAdded, AreNeighbours}
-use Rattle.graph_plan.proofs.ListLemmas.{get_within, contained, contained_cases, place_of, least_along}
 use Rattle.graph_plan.proofs.OrderLemmas.{is_listed}
 use Rattle.graph_plan.proofs.BuiltOrder.{cases_listed, can_or_waits, all_done}
 use Rattle.graph_plan.proofs.RowLemmas.{in_row}
@@ -68,7 +69,7 @@ in_inserted (x ∷ xs) k f = insert_by x k f xs (nat_cmp k x) refl (in_inserted 
 
 -- ---- filters that can come
 
--- where a row's items are all done
+-- if a row's items are all done
 pub has_all : (givers : List (Vec ℕ Global)) (done : List Bool) (filter place : ℕ) (row : Vec ℕ Global) → slice_get givers filter ≡ Some row
     → ((k : ℕ) → k < place → k < length row.items → IsMarked done (slice_index row.items k)) → length row.items ≤ place → HasAll givers done filter
 has_all givers done filter place row at passed past giver has =
@@ -77,7 +78,7 @@ has_all givers done filter place row at passed past giver has =
     let P : ℕ → Type 0 = λ n. IsMarked done n in
     subst P (get_or_from_slice_get row.items where_at.0 giver 0 where_at.2) is
 
--- where one of them isn't
+-- if one of them isn't
 pub not_all : (givers : List (Vec ℕ Global)) (done : List Bool) (filter place : ℕ) (row : Vec ℕ Global) → slice_get givers filter ≡ Some row
     → place < length row.items → get_or done (slice_index row.items place) false ≡ false → HasAll givers done filter → ⊥
 not_all givers done filter place row at low left all =
@@ -235,7 +236,7 @@ begun givers count filter first progress are none all f = (
 
 -- ---- the order
 
--- so many filters are in order, and done; those that can come are ready; and whatever comes behind the order completes it
+-- The first filters are in order, and done. Those that can come are ready. Whatever comes after the order completes it.
 pub record Arranging (links : List Edge) (count index : ℕ) (neighbours : Neighbours) (order : List ℕ) (progress : Progress) : Type 0 where
   pub many : length order ≡ index
   pub all : length progress.done.items ≡ count
@@ -268,7 +269,7 @@ arranging_none links count neighbours progress are along all bare ready = record
   comes = λ more h. h;
 }
 
--- the least of those that are ready comes next
+-- the lowest of those that are ready comes next
 pub arranging_more : (links : List Edge) (count index filter : ℕ) (neighbours : Neighbours) (order rest : List ℕ) (old new : Progress) → AreBelow (Feeds links) count → AreNeighbours (Feeds links) count neighbours
     → Arranging links count index neighbours order old → old.ready.keys ≡ filter ∷ rest → ((other : ℕ) → Contains rest other → filter < other)
     → IsAlong neighbours.givers.items new → new.done.items ≡ set old.done.items filter true
@@ -285,7 +286,7 @@ arranging_more links count index filter neighbours order rest old new below are 
     | inr same ↦ (let P : ℕ → Type 0 = λ n. Feeds links giver n in can.2 giver (subst P (sym same) feeds))
   ]);
   ready = λ f. (forth f, back f);
-  comes = λ more h. rw append_assoc (is.comes (filter ∷ more) (can.0, can.1, can.2, least, h));
+  comes = λ more h. rw append_assoc (is.comes (filter ∷ more) (can.0, can.1, can.2, lowest, h));
 } where
   listed : (f : ℕ) → Contains old.ready.keys f → (filter ≡ f) ⊎ Contains rest f
   listed f here = contained_cases filter rest f (rw keys at here)
@@ -299,8 +300,8 @@ arranging_more links count index filter neighbours order rest old new below are 
   within : filter < length old.done.items
   within = let all = is.all in let low = can.0 in omega arith
 
-  least : (other : ℕ) → other < filter → (Contains order other → ⊥) → IsReady (Feeds links) order other → ⊥
-  least other less left could = elim (listed other ((is.ready other).1 (let low = can.0 in omega arith, left, could))) [
+  lowest : (other : ℕ) → other < filter → (Contains order other → ⊥) → IsReady (Feeds links) order other → ⊥
+  lowest other less left could = elim (listed other ((is.ready other).1 (let low = can.0 in omega arith, left, could))) [
     | inl same ↦ omega arith
     | inr there ↦ (let more = above other there in omega arith)
   ]
@@ -365,7 +366,7 @@ arranging_more links count index filter neighbours order rest old new below are 
             )
       ]
 
--- where none is ready before all are done, some filter reaches itself
+-- if none is ready before all are done, some filter reaches itself
 pub arranging_stuck : (links : List Edge) (count index : ℕ) (neighbours : Neighbours) (order : List ℕ) (progress : Progress) → AreBelow (Feeds links) count → Arranging links count index neighbours order progress
     → index < count → progress.ready.keys ≡ [] → ((filter : ℕ) → Reaches (Feeds links) filter filter → ⊥) → ⊥
 arranging_stuck links count index neighbours order progress below is left none straight =
@@ -397,13 +398,13 @@ pub stuck_cycle : (links : List Edge) (count index : ℕ) (neighbours : Neighbou
 stuck_cycle links count index neighbours order progress below are is left none straight = arranging_stuck links count index neighbours order progress below is left none (λ filter reaches.
     straight filter (leads_along (Feeds links) (Has neighbours.takers.items) (λ giver taker feeds. (are.takers giver taker).1 feeds) filter filter reaches))
 
--- the least filter that reaches itself over rows does so over links
+-- the lowest filter that reaches itself over rows does so over links
 pub named_cycle : (links : List Edge) (count : ℕ) (neighbours : Neighbours) (arranged : Arranged) → AreNeighbours (Feeds links) count neighbours
-    → ((filter : ℕ) × (arranged ≡ Cycle filter) × IsLeast (λ f. Reaches (Has neighbours.takers.items) f f) filter) → IsArranged links count arranged
+    → ((filter : ℕ) × (arranged ≡ Cycle filter) × IsFirst (λ f. Reaches (Has neighbours.takers.items) f f) filter) → IsArranged links count arranged
 named_cycle links count neighbours arranged are named =
     let P : Arranged → Type 0 = λ a. IsArranged links count a in
     let takers = Has neighbours.takers.items in
-    subst P (sym named.1) (least_along
+    subst P (sym named.1) (first_along
     (λ f reaches. leads_along takers (Feeds links) (λ giver taker has. (are.takers giver taker).0 has) f f reaches)
     (λ f reaches. leads_along (Feeds links) takers (λ giver taker feeds. (are.takers giver taker).1 feeds) f f reaches)
     named.2)

@@ -1,5 +1,5 @@
 -- Which output file takes which open output pad.
-use Rattle.std.proofs.Common.{◌≡◌, ◌<◌, ◌≤◌, ◌+◌, ◌++◌, ℕ, suc, zero, List, [], ◌∷◌, Option, Some, None, Ok, Err, Result, length, get_or, refl, sym, ◌∙◌, ap, subst, inl, inr, arith, add-one, below_more}
+use Rattle.std.proofs.Common.{◌≡◌, ◌<◌, ◌≤◌, ◌+◌, ◌++◌, ℕ, suc, zero, List, [], ◌∷◌, Option, Some, None, Result, length, get_or, refl, sym, ◌∙◌, ap, subst, inl, inr, arith, add-one, below_more}
 use Rattle.std.specs.Prelude.{IfOk}
 use Rattle.std.specs.List.{slice_get, Contains}
 use Rattle.std.proofs.lemmas.List.{length_push}
@@ -11,12 +11,14 @@ use Rattle.graph_plan.specs.declared.plan.DraftPlan.{DraftPlan}
 use Rattle.graph_plan.specs.declared.plan.Plan.{Plan}
 use Rattle.graph_plan.specs.declared.plan.PlanFault.{PlanFault}
 use Rattle.graph_plan.specs.declared.plan.PlanFault.TheVariants.{NoSuchOutput, Unmapped, WrongKind}
-use Rattle.graph_plan.specs.declared.plan.PlanError.{PlanError}
-use Rattle.graph_plan.specs.declared.plan.PlanError.TheVariants.{Fault, NoMemory}
-use Rattle.graph_plan.specs.Bindings.{Name, name_of, number_behind, names, pad_names, file_names, IsPadOf, Takes, FindsNone, IsUnmapped, CannotTake, TakesWrong, IsBindFault, Misses, Leaves, Mixes, link_to_output, AreOutputs, IsBound, IfFault, Gives, Refuses}
-use Rattle.graph_plan.specs.Least.{IsLeast}
+use Rattle.av_base.specs.declared.failure.Failure.{Failure}
+use Rattle.av_base.proofs.FailureLemmas.{gives_from, refuses_from}
+use Rattle.graph_plan.specs.Bindings.{Name, name_of, number_after, names, pad_names, file_names, IsPadOf, Takes, FindsNone, IsUnmapped, CannotTake, TakesWrong, IsBindFault, Misses, Leaves, Mixes, link_to_output, AreOutputs, IsBound}
+use Rattle.av_base.specs.Failures.{IfFault, Gives, Refuses}
+use Rattle.av_base.specs.First.{IsFirst}
+use Rattle.av_base.proofs.Lists.{same_gets, pushed_at, get_within, contained, place_of}
+use Rattle.av_base.proofs.Arithmetic.{first_same, first_along}
 use Rattle.graph_plan.specs.Places.{AreFound, IsLeft, AreLinks}
-use Rattle.graph_plan.proofs.ListLemmas.{same_gets, pushed_at, get_within, contained, place_of, least_same, least_along}
 
 -- ---- names
 
@@ -24,28 +26,28 @@ use Rattle.graph_plan.proofs.ListLemmas.{same_gets, pushed_at, get_within, conta
 abbrev pub number_at : {X : Type 0} → (X → Option (List ℕ)) → ℕ → List X → ℕ → ℕ
 number_at label n xs zero = n
 number_at label n [] (suc k) = n
-number_at label n (x ∷ xs) (suc k) = number_at label (number_behind (label x) n) xs k
+number_at label n (x ∷ xs) (suc k) = number_at label (number_after (label x) n) xs k
 
 pub length-names : {X : Type 0} (label : X → Option (List ℕ)) (n : ℕ) (xs : List X) → length (names label n xs) ≡ length xs
 length-names label n [] = refl
-length-names label n (x ∷ xs) = ap suc (length-names label (number_behind (label x) n) xs)
+length-names label n (x ∷ xs) = ap suc (length-names label (number_after (label x) n) xs)
 
 pub name_at : {X : Type 0} (label : X → Option (List ℕ)) (n : ℕ) (xs : List X) (k : ℕ) (x : X) → slice_get xs k ≡ Some x → slice_get (names label n xs) k ≡ Some (name_of (label x) (number_at label n xs k))
 name_at label n [] k x e = absurd (cc)
 name_at {X} label n (y ∷ ys) zero x e = ap (λ (z : X). Some (name_of (label z) n)) (same_Some y x e)
-name_at label n (y ∷ ys) (suc k) x e = name_at label (number_behind (label y) n) ys k x e
+name_at label n (y ∷ ys) (suc k) x e = name_at label (number_after (label y) n) ys k x e
 
-number_suc : {X : Type 0} (label : X → Option (List ℕ)) (n : ℕ) (xs : List X) (k : ℕ) (x : X) → slice_get xs k ≡ Some x → number_at label n xs (suc k) ≡ number_behind (label x) (number_at label n xs k)
+number_suc : {X : Type 0} (label : X → Option (List ℕ)) (n : ℕ) (xs : List X) (k : ℕ) (x : X) → slice_get xs k ≡ Some x → number_at label n xs (suc k) ≡ number_after (label x) (number_at label n xs k)
 number_suc label n [] k x e = absurd (cc)
-number_suc {X} label n (y ∷ ys) zero x e = ap (λ (z : X). number_behind (label z) n) (same_Some y x e)
-number_suc label n (y ∷ ys) (suc k) x e = number_suc label (number_behind (label y) n) ys k x e
+number_suc {X} label n (y ∷ ys) zero x e = ap (λ (z : X). number_after (label z) n) (same_Some y x e)
+number_suc label n (y ∷ ys) (suc k) x e = number_suc label (number_after (label y) n) ys k x e
 
-pub number_more : {X : Type 0} (label : X → Option (List ℕ)) (n : ℕ) (xs : List X) (k : ℕ) (x : X) → slice_get xs k ≡ Some x → number_at label n xs (k + 1) ≡ number_behind (label x) (number_at label n xs k)
+pub number_more : {X : Type 0} (label : X → Option (List ℕ)) (n : ℕ) (xs : List X) (k : ℕ) (x : X) → slice_get xs k ≡ Some x → number_at label n xs (k + 1) ≡ number_after (label x) (number_at label n xs k)
 number_more label n xs k x e = rw add-one (number_suc label n xs k x e)
 
-pub number_behind-le : (label : Option (List ℕ)) (n : ℕ) → number_behind label n ≤ n + 1
-number_behind-le (Some label) n = omega arith
-number_behind-le None n = omega arith
+pub number_after-le : (label : Option (List ℕ)) (n : ℕ) → number_after label n ≤ n + 1
+number_after-le (Some label) n = omega arith
+number_after-le None n = omega arith
 
 -- ---- what takes what
 
@@ -55,7 +57,7 @@ takes_called {opens} {files} {k} {o} name e t =
     let P : Name → Type 0 = λ n. IsPadOf opens n o in subst P same t.is_pad
 
 pub takes_same : {opens : List OpenOut} {files : List OutputFile} {k o p : ℕ} → Takes opens files k o → Takes opens files k p → o ≡ p
-takes_same t u = least_same t.is_pad (takes_called t.name t.is_file u)
+takes_same t u = first_same t.is_pad (takes_called t.name t.is_file u)
 
 pub takes_within : {opens : List OpenOut} {files : List OutputFile} {k o : ℕ} → Takes opens files k o → (k < length files) × (o < length opens)
 takes_within {opens} {files} {k} {o} t = (
@@ -94,12 +96,12 @@ one_plan draft files a b p q =
     with_links ∙ ap (λ (z : List ℕ). record { links = b.links; order = z }) order
 
 pub one_fault : (opens : List OpenOut) (files : List OutputFile) (f g : PlanFault) → IsBindFault opens files f → IsBindFault opens files g → f ≡ g
-one_fault opens files _ _ (Misses a p) (Misses b q) = ap NoSuchOutput (least_same p q)
+one_fault opens files _ _ (Misses a p) (Misses b q) = ap NoSuchOutput (first_same p q)
 one_fault opens files _ _ (Misses a p) (Leaves filter pad none left) = absurd (none a p.holds)
 one_fault opens files _ _ (Misses a p) (Mixes b none all wrong) = absurd (none a p.holds)
 one_fault opens files _ _ (Leaves filter pad none left) (Misses b q) = absurd (none b q.holds)
 one_fault opens files _ _ (Leaves filter pad none left) (Leaves other out nor more) =
-    let place : left.0 ≡ more.0 = least_same left.1 more.1 in
+    let place : left.0 ≡ more.0 = first_same left.1 more.1 in
     let same : left.2.0 ≡ more.2.0 = same_Some left.2.0 more.2.0 (sym left.2.1 ∙ (ap (slice_get opens) place ∙ more.2.1)) in
     let filters : filter ≡ other = sym left.2.2 ∙ (ap (λ (z : OpenOut). z.filter) same ∙ more.2.2) in
     let pads : pad ≡ out = sym left.2.3 ∙ (ap (λ (z : OpenOut). z.pad) same ∙ more.2.3) in
@@ -107,31 +109,29 @@ one_fault opens files _ _ (Leaves filter pad none left) (Leaves other out nor mo
 one_fault opens files _ _ (Leaves filter pad none left) (Mixes b nor all wrong) = absurd (all left.0 left.1.holds)
 one_fault opens files _ _ (Mixes a none all wrong) (Misses b q) = absurd (none b q.holds)
 one_fault opens files _ _ (Mixes a none all wrong) (Leaves filter pad nor left) = absurd (all left.0 left.1.holds)
-one_fault opens files _ _ (Mixes a none all wrong) (Mixes b nor each other) = ap WrongKind (least_same wrong other)
+one_fault opens files _ _ (Mixes a none all wrong) (Mixes b nor each other) = ap WrongKind (first_same wrong other)
 
 pub not_both : (draft : DraftPlan) (files : List OutputFile) (plan : Plan) (f : PlanFault) → IsBound draft files plan → IsBindFault draft.opens files f → ⊥
 not_both draft files plan _ p (Misses a q) = p.all_find a q.holds
 not_both draft files plan _ p (Leaves filter pad none left) = p.all_mapped left.0 left.1.holds
 not_both draft files plan _ p (Mixes a none all wrong) = p.all_fit a wrong.holds
 
--- what a call answers, where there is a plan, and where there is a fault
-pub binds : (draft : DraftPlan) (files : List OutputFile) (r : Result Plan PlanError) → IfOk r (IsBound draft files) → IfFault r (IsBindFault draft.opens files) → (plan : Plan) → IsBound draft files plan → Gives plan r
-binds draft files (Ok plan) p q other b = one_plan draft files plan other p b
-binds draft files (Err (Fault f)) p q other b = not_both draft files other f b q
-binds draft files (Err NoMemory) p q other b = tt
+-- what a call returns if there is a plan, and if there is a fault
+pub binds : (draft : DraftPlan) (files : List OutputFile) (r : Result Plan (Failure PlanFault)) → IfOk r (IsBound draft files) → IfFault r (IsBindFault draft.opens files)
+    → (plan : Plan) → IsBound draft files plan → Gives (λ made. made ≡ plan) r
+binds draft files r p q plan b = gives_from r p q (λ made is. one_plan draft files made plan is b) (λ f is. not_both draft files plan f b is)
 
-pub refuses : (draft : DraftPlan) (files : List OutputFile) (r : Result Plan PlanError) → IfOk r (IsBound draft files) → IfFault r (IsBindFault draft.opens files) → (f : PlanFault) → IsBindFault draft.opens files f → Refuses f r
-refuses draft files (Ok plan) p q f b = not_both draft files plan f p b
-refuses draft files (Err (Fault g)) p q f b = one_fault draft.opens files g f q b
-refuses draft files (Err NoMemory) p q f b = tt
+pub refuses : (draft : DraftPlan) (files : List OutputFile) (r : Result Plan (Failure PlanFault)) → IfOk r (IsBound draft files) → IfFault r (IsBindFault draft.opens files)
+    → (f : PlanFault) → IsBindFault draft.opens files f → Refuses (λ found. found ≡ f) r
+refuses draft files r p q f b = refuses_from r p q (λ made is. not_both draft files made f is b) (λ found is. one_fault draft.opens files found f is b)
 
 -- ---- numbers along a list
 
 pub number_next : {X : Type 0} (label : X → Option (List ℕ)) (xs : List X) (place passed next : ℕ) (x : X) → place < length xs → x ≡ get_or xs place x → passed ≡ number_at label 0 xs place
-    → next ≡ number_behind (label x) passed → passed ≤ place → (next ≤ place + 1) × (next ≡ number_at label 0 xs (place + 1))
+    → next ≡ number_after (label x) passed → passed ≤ place → (next ≤ place + 1) × (next ≡ number_at label 0 xs (place + 1))
 number_next label xs place passed next x lt e numbered is few =
     let more = number_more label 0 xs place x (slice_get_read xs (length xs) place x refl lt e) in
-    (let le = number_behind-le (label x) passed in omega (arith, is), is ∙ (ap (number_behind (label x)) numbered ∙ sym more))
+    (let le = number_after-le (label x) passed in omega (arith, is), is ∙ (ap (number_after (label x)) numbered ∙ sym more))
 
 -- ---- a walk over the files
 
@@ -179,7 +179,7 @@ file_stuck {pads} {files} {places} k number f found each lt e numbered none =
             let at = place_of places o (none o (takes_called (name_of f.label number) called t)) in
             (at.0, omega (arith, each, at.1), found.takes at.0 o at.2),
       );
-      least = λ other less. found.finds other (omega (arith, each));
+      none_before = λ other less. found.finds other (omega (arith, each));
     })
 
 -- ---- all files have a pad
@@ -199,11 +199,11 @@ left_unmapped {pads} {files} {places} found each o h = (h.0, λ k t. h.1 (contai
 unmapped_left : {pads : List OpenOut} {files : List OutputFile} {places : List ℕ} → AreFound pads files places → (o : ℕ) → IsUnmapped pads files o → IsLeft places (length pads) o
 unmapped_left {pads} {files} {places} found o h = (h.0, λ c. let at = place_of places o c in h.1 at.0 (found.takes at.0 o at.2))
 
-pub pad_left : {pads : List OpenOut} {files : List OutputFile} {places : List ℕ} (place : ℕ) (p : OpenOut) → AreFound pads files places → length places ≡ length files → IsLeast (IsLeft places (length pads)) place
+pub pad_left : {pads : List OpenOut} {files : List OutputFile} {places : List ℕ} (place : ℕ) (p : OpenOut) → AreFound pads files places → length places ≡ length files → IsFirst (IsLeft places (length pads)) place
     → p ≡ get_or pads place p → IsBindFault pads files (Unmapped p.filter p.pad)
 pad_left {pads} {files} {places} place p found each left e = Leaves p.filter p.pad (all_find found each) (
   place,
-  least_along (left_unmapped found each) (unmapped_left found) left,
+  first_along (left_unmapped found each) (unmapped_left found) left,
   (p, slice_get_read pads (length pads) place p refl left.holds.0 e, refl, refl),
 )
 
@@ -219,7 +219,7 @@ pub pad_within : {pads : List OpenOut} {files : List OutputFile} {places : List 
 pad_within {pads} {files} {places} found k lt = place_within found k (get_or places k 0) (slice_get-get_or places k 0 lt)
 
 pub kind_wrong : {pads : List OpenOut} {files : List OutputFile} {places : List ℕ} (k : ℕ) (f : OutputFile) (p : OpenOut) → AreFound pads files places → k < length places → f ≡ get_or files k f
-    → p ≡ get_or pads (get_or places k 0) p → CannotTake f.ending p.media → ((other : ℕ) → other < k → TakesWrong pads files other → ⊥) → IsLeast (TakesWrong pads files) k
+    → p ≡ get_or pads (get_or places k 0) p → CannotTake f.ending p.media → ((other : ℕ) → other < k → TakesWrong pads files other → ⊥) → IsFirst (TakesWrong pads files) k
 kind_wrong {pads} {files} {places} k f p found lt e g cannot none =
     let at = slice_get-get_or places k 0 lt in
     record {
@@ -232,7 +232,7 @@ kind_wrong {pads} {files} {places} k f p found lt e g cannot none =
         is_pad = slice_get_read pads (length pads) (get_or places k 0) p refl (pad_within found k lt) g;
         cannot = cannot;
       };
-      least = none;
+      none_before = none;
     }
 
 pub kind_fits : {pads : List OpenOut} {files : List OutputFile} {places : List ℕ} (k : ℕ) (f : OutputFile) (p : OpenOut) → AreFound pads files places → k < length places → f ≡ get_or files k f
@@ -270,5 +270,5 @@ linked {pads} {files} {places} {links} found each same all = record {
 }
 
 -- a file that takes wrong is one of the files
-pub wrong_within : {pads : List OpenOut} {files : List OutputFile} {k : ℕ} → IsLeast (TakesWrong pads files) k → k < length files
+pub wrong_within : {pads : List OpenOut} {files : List OutputFile} {k : ℕ} → IsFirst (TakesWrong pads files) k → k < length files
 wrong_within w = (takes_within w.holds.takes).0

@@ -17,7 +17,9 @@ use Rattle.graph_plan.specs.declared.plan.PlanFault.{PlanFault}
 use Rattle.graph_plan.specs.declared.plan.PlanFault.TheVariants.{NoSuchOutput, Unmapped, WrongKind}
 use Rattle.graph_plan.specs.Bindings.{Name, pad_names, file_names, Takes, FindsNone, IsUnmapped, CannotTake, TakesWrong, IsBindFault, Misses, Leaves, Mixes, link_to_output, IsBound, OutputsBindInOneWay}
 use Rattle.graph_plan.specs.Bindings.Name.{Label, Number}
-use Rattle.graph_plan.proofs.ListLemmas.{get_within, cases_Option, pushed_at, first_or_none}
+use Rattle.graph_plan.proofs.ListLemmas.{cases_Option}
+use Rattle.av_base.proofs.Lists.{get_within, pushed_at}
+use Rattle.av_base.proofs.Arithmetic.{first_or_none}
 use Rattle.graph_plan.proofs.BindLemmas.{takes_called, takes_same, takes_within, wrong_fits, one_plan, one_fault, not_both}
 
 -- ---- names that are the same or aren't
@@ -61,7 +63,7 @@ module _ (opens : List OpenOut) (files : List OutputFile) where
   takes_or_none : (k : ℕ) → ((o : ℕ) × Takes opens files k o) ⊎ ((o : ℕ) → Takes opens files k o → ⊥)
   takes_or_none k = elim (cases_Option (slice_get (file_names files) k)) [
     | inl called ↦ elim (first_or_none (λ o. slice_get (pad_names opens) o ≡ Some called.0) (λ o. slice_get (pad_names opens) o ≡ Some called.0 → ⊥) (λ o. cases_named (pad_names opens) o called.0) (length opens)) [
-      | inl first ↦ inl (first.0, record { name = called.0; is_file = called.1; is_pad = record { holds = first.2; least = first.3 } })
+      | inl first ↦ inl (first.0, record { name = called.0; is_file = called.1; is_pad = record { holds = first.2; none_before = first.3 } })
       | inr none ↦ inr (λ o takes. none o (takes_within takes).1 (takes_called called.0 called.1 takes).holds)
     ]
     | inr none ↦ inr (λ o takes. let called = takes.is_file in cc)
@@ -115,7 +117,7 @@ module _ (opens : List OpenOut) (files : List OutputFile) where
 
   -- ---- the links to outputs
 
-  -- where each file finds a pad, so many first ones have their links
+  -- if each file finds a pad, the first files have their links
   first_outputs : ((k : ℕ) → FindsNone opens files k → ⊥) → (count : ℕ) → count ≤ length files
       → (links : List Edge) × (length links ≡ count) × ((k : ℕ) (link : Edge) → slice_get links k ≡ Some link → (o : ℕ) × Takes opens files k o × ((p : OpenOut) × (slice_get opens o ≡ Some p) × (link ≡ link_to_output p k)))
   first_outputs find zero few = ([], refl, λ k link e. absurd (cc))
@@ -146,7 +148,7 @@ module _ (opens : List OpenOut) (files : List OutputFile) where
 abbrev OneOfBoth : DraftPlan → List OutputFile → Type 0
 OneOfBoth draft files = ((plan : Plan) × IsBound draft files plan) ⊎ ((f : PlanFault) × IsBindFault draft.opens files f)
 
--- where each file finds a pad, each pad is taken, and the kinds fit, there is a plan
+-- if each file finds a pad, each pad is taken, and the kinds fit, there is a plan
 has_plan : (draft : DraftPlan) (files : List OutputFile) → ((k : ℕ) → FindsNone draft.opens files k → ⊥) → ((o : ℕ) → IsUnmapped draft.opens files o → ⊥) → ((k : ℕ) → TakesWrong draft.opens files k → ⊥) → (plan : Plan) × IsBound draft files plan
 has_plan draft files find mapped fit =
     let outputs = first_outputs draft.opens files find (length files) (omega arith) in (
@@ -162,26 +164,26 @@ has_plan draft files find mapped fit =
       },
     )
 
--- where each file finds a pad, and each pad is taken
+-- if each file finds a pad, and each pad is taken
 by_kinds : (draft : DraftPlan) (files : List OutputFile) → ((k : ℕ) → FindsNone draft.opens files k → ⊥) → ((o : ℕ) → IsUnmapped draft.opens files o → ⊥) → OneOfBoth draft files
 by_kinds draft files find mapped = elim (first_or_none (TakesWrong draft.opens files) (λ k. TakesWrong draft.opens files k → ⊥) (wrong_or_fits draft.opens files) (length files)) [
-  | inl wrong ↦ inr (WrongKind wrong.0, Mixes wrong.0 find mapped (record { holds = wrong.2; least = wrong.3 }))
+  | inl wrong ↦ inr (WrongKind wrong.0, Mixes wrong.0 find mapped (record { holds = wrong.2; none_before = wrong.3 }))
   | inr fit ↦ inl (has_plan draft files find mapped (λ k wrong. fit k (takes_within wrong.takes).0 wrong))
 ]
 
--- where each file finds a pad
+-- if each file finds a pad
 by_pads : (draft : DraftPlan) (files : List OutputFile) → ((k : ℕ) → FindsNone draft.opens files k → ⊥) → OneOfBoth draft files
 by_pads draft files find = elim (first_or_none (IsUnmapped draft.opens files) (λ o. IsUnmapped draft.opens files o → ⊥) (unmapped_or_mapped draft.opens files) (length draft.opens)) [
   | inl left ↦ (
       let pad = get_within draft.opens left.0 left.1 in
-      inr (Unmapped pad.0.filter pad.0.pad, Leaves pad.0.filter pad.0.pad find (left.0, record { holds = left.2; least = left.3 }, (pad.0, pad.1, refl, refl)))
+      inr (Unmapped pad.0.filter pad.0.pad, Leaves pad.0.filter pad.0.pad find (left.0, record { holds = left.2; none_before = left.3 }, (pad.0, pad.1, refl, refl)))
       )
   | inr mapped ↦ by_kinds draft files find (λ o unmapped. mapped o unmapped.0 unmapped)
 ]
 
 one_of_both : (draft : DraftPlan) (files : List OutputFile) → OneOfBoth draft files
 one_of_both draft files = elim (first_or_none (FindsNone draft.opens files) (λ k. FindsNone draft.opens files k → ⊥) (finds_or_none draft.opens files) (length files)) [
-  | inl stuck ↦ inr (NoSuchOutput stuck.0, Misses stuck.0 (record { holds = stuck.2; least = stuck.3 }))
+  | inl stuck ↦ inr (NoSuchOutput stuck.0, Misses stuck.0 (record { holds = stuck.2; none_before = stuck.3 }))
   | inr find ↦ by_pads draft files (λ k none. find k none.0 none)
 ]
 

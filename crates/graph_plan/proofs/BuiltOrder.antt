@@ -12,7 +12,8 @@ use Rattle.graph_plan.specs.declared.plan.Target.{Target}
 use Rattle.graph_plan.specs.declared.plan.Target.TheVariants as to
 use Rattle.graph_plan.specs.Orders.{Feeds, Reaches, IsReady, Comes, IsOrder, AreBelow, OneOrder}
 use Rattle.graph_plan.specs.Arranging.{Joins}
-use Rattle.graph_plan.proofs.ListLemmas.{contained, contained_cases, first_or_none}
+use Rattle.av_base.proofs.Lists.{contained, contained_cases}
+use Rattle.av_base.proofs.Arithmetic.{first_or_none}
 use Rattle.graph_plan.proofs.OrderLemmas.{listed, is_listed, same_comes, leads_below, done_none, comes_straight, held_cycle}
 
 -- ---- what can come next
@@ -76,7 +77,7 @@ can_or_waits links done filter = elim (cases_listed done filter) [
 abbrev IsLeft : ℕ → List ℕ → ℕ → Type 0
 IsLeft count done filter = (filter < count) × (Contains done filter → ⊥)
 
--- where none can come, all are done
+-- if none can come, all are done
 pub all_done : (links : List Edge) (count : ℕ) (done : List ℕ) → AreBelow (Feeds links) count → ((filter : ℕ) → Reaches (Feeds links) filter filter → ⊥) → ((filter : ℕ) → filter < count → Waits links done filter)
     → (filter : ℕ) → filter < count → Contains done filter
 all_done links count done below straight wait filter low = elim (cases_listed done filter) [
@@ -84,7 +85,7 @@ all_done links count done below straight wait filter low = elim (cases_listed do
   | inr left ↦ absurd (held_cycle (Feeds links) count (IsLeft count done) below (λ taker is. let held = wait taker is.0 is.1 in (held.0, held.1, (below.givers held.0 taker held.1, held.2))) filter low (low, left) straight)
 ]
 
--- behind those that are done come all that are left
+-- after those that are done come all that are left
 pub comes_on : (links : List Edge) (count : ℕ) → AreBelow (Feeds links) count → ((filter : ℕ) → Reaches (Feeds links) filter filter → ⊥) → (left : ℕ) (done : List ℕ) → length done + left ≡ count
     → (filters : List ℕ) × Comes (Feeds links) count done filters
 comes_on links count below straight zero done all = ([], omega arith)

@@ -10,53 +10,55 @@ use Rattle.std.proofs.lemmas.Option.{same_Some, slice_get_within}
 use Rattle.std.proofs.lemmas.Slice.Eq.{bytes_eq-Decides}
 use Rattle.graph_plan.specs.declared.plan.OpenOut.{OpenOut}
 use Rattle.graph_plan.specs.declared.called.PadTable.{PadTable}
-use Rattle.graph_plan.specs.Bindings.{Name, Label, Number, name_of, number_behind, names, pad_names, IsPadOf}
-use Rattle.graph_plan.specs.Least.{IsLeast}
+use Rattle.graph_plan.specs.Bindings.{Name, Label, Number, name_of, number_after, names, pad_names, IsPadOf}
+use Rattle.av_base.specs.First.{IsFirst}
+use Rattle.av_base.proofs.Lists.{pushed_at, append_get_left, append_get_right, get_within}
+use Rattle.av_base.proofs.Arithmetic.{first_same, first_along}
 use Rattle.graph_plan.specs.Places.{pad_called, AreCalled, IsLeft, MarksThese}
 use Rattle.graph_plan.specs.Arranging.{IsMarked}
 use Rattle.graph_plan.proofs.BindLemmas.{length-names}
-use Rattle.graph_plan.proofs.ListLemmas.{cases_Option, pushed_at, append_get_left, append_get_right, get_within, least_same, least_along}
+use Rattle.graph_plan.proofs.ListLemmas.{cases_Option}
 use Rattle.graph_plan.proofs.TurnLemmas.{marked_same, marked_stays, marked_why}
 
 -- ---- names of one more
 
--- the number behind all of these
+-- the number after all of these
 abbrev pub number_past : {X : Type 0} → (X → Option (List ℕ)) → ℕ → List X → ℕ
 number_past label n [] = n
-number_past label n (x ∷ xs) = number_past label (number_behind (label x) n) xs
+number_past label n (x ∷ xs) = number_past label (number_after (label x) n) xs
 
 pub names_push : {X : Type 0} (label : X → Option (List ℕ)) (n : ℕ) (xs : List X) (x : X)
     → names label n (xs ++ x ∷ []) ≡ names label n xs ++ name_of (label x) (number_past label n xs) ∷ []
 names_push label n [] x = refl
-names_push label n (y ∷ ys) x = ap (λ (rest : List Name). name_of (label y) n ∷ rest) (names_push label (number_behind (label y) n) ys x)
+names_push label n (y ∷ ys) x = ap (λ (rest : List Name). name_of (label y) n ∷ rest) (names_push label (number_after (label y) n) ys x)
 
-pub number_push : {X : Type 0} (label : X → Option (List ℕ)) (n : ℕ) (xs : List X) (x : X) → number_past label n (xs ++ x ∷ []) ≡ number_behind (label x) (number_past label n xs)
+pub number_push : {X : Type 0} (label : X → Option (List ℕ)) (n : ℕ) (xs : List X) (x : X) → number_past label n (xs ++ x ∷ []) ≡ number_after (label x) (number_past label n xs)
 number_push label n [] x = refl
-number_push label n (y ∷ ys) x = number_push label (number_behind (label y) n) ys x
+number_push label n (y ∷ ys) x = number_push label (number_after (label y) n) ys x
 
 -- ---- the first of a name
 
 -- whether a place is the first of a name, or there is none
 abbrev pub Finds : List Name → Name → Option ℕ → Type 0
-Finds all name found = MatchOption found ((o : ℕ) → slice_get all o ≡ Some name → ⊥) (IsLeast (λ o. slice_get all o ≡ Some name))
+Finds all name found = MatchOption found ((o : ℕ) → slice_get all o ≡ Some name → ⊥) (IsFirst (λ o. slice_get all o ≡ Some name))
 
--- it stays so behind one more, where that has another name or one that was there
+-- it stays so after one more, if that has another name or one that was there
 finds_kept : (all : List Name) (last name : Name) (found : Option ℕ) → Finds all name found → (found ≡ None → last ≡ name → ⊥) → Finds (all ++ last ∷ []) name found
 finds_kept all last name None is apart = λ o e. elim (pushed_at all last o name e) [ inl old ↦ is o old | inr end ↦ apart refl (sym end.1) ]
 finds_kept all last name (Some place) is apart = record {
   holds = append_get_left all (last ∷ []) place name is.holds;
-  least = λ other less e. elim (pushed_at all last other name e) [
-    | inl old ↦ is.least other less old
+  none_before = λ other less e. elim (pushed_at all last other name e) [
+    | inl old ↦ is.none_before other less old
     | inr end ↦ (let within = slice_get_within all place name is.holds in let at = end.0 in omega arith)
   ];
 }
 
--- one more is the first of its name where none was there
+-- one more is the first of its name if none was there
 finds_last : (all : List Name) (name : Name) (found : Option ℕ) → Finds all name found → found ≡ None → Finds (all ++ name ∷ []) name (Some (length all))
 finds_last all name (Some place) is none = absurd (cc)
 finds_last all name None is none = record {
   holds = (let end : length all + 0 ≡ length all = omega arith in rw end at (append_get_right all (name ∷ []) 0));
-  least = λ other less e. elim (pushed_at all name other name e) [ inl old ↦ is other old | inr end ↦ (let at = end.0 in omega arith) ];
+  none_before = λ other less e. elim (pushed_at all name other name e) [ inl old ↦ is other old | inr end ↦ (let at = end.0 in omega arith) ];
 }
 
 finds_as : (all : List Name) (name : Name) (found other : Option ℕ) → found ≡ other → Finds all name other → Finds all name found
@@ -138,7 +140,7 @@ called_new all place label table new each is none same more (Label other) = elim
 pub called_more : (pads : List OpenOut) (place : ℕ) (pad : OpenOut) (table new : PadTable) → place < length pads → pad ≡ get_or pads place pad
     → AreCalled (pad_names (take place pads)) table → length table.numbered.items ≡ number_past (λ (p : OpenOut). p.label) 0 (take place pads)
     → ((all : List Name) → length all ≡ place → AreCalled all table → AreCalled (all ++ name_of pad.label (length table.numbered.items) ∷ []) new)
-    → length new.numbered.items ≡ number_behind pad.label (length table.numbered.items)
+    → length new.numbered.items ≡ number_after pad.label (length table.numbered.items)
     → AreCalled (pad_names (take (place + 1) pads)) new × (length new.numbered.items ≡ number_past (λ (p : OpenOut). p.label) 0 (take (place + 1) pads))
 called_more pads place pad table new within is called numbered step count =
     let label : OpenOut → Option (List ℕ) = λ (p : OpenOut). p.label in
@@ -150,7 +152,7 @@ called_more pads place pad table new within is called numbered step count =
     let Q : List Name → Type 0 = λ all. AreCalled all new in
     let R : List OpenOut → Type 0 = λ xs. AreCalled (pad_names xs) new in (
       subst R (sym more) (subst Q (sym (names_push label 0 before pad)) named),
-      count ∙ (ap (number_behind pad.label) numbered ∙ (sym (number_push label 0 before pad) ∙ ap (λ (xs : List OpenOut). number_past label 0 xs) (sym more))),
+      count ∙ (ap (number_after pad.label) numbered ∙ (sym (number_push label 0 before pad) ∙ ap (λ (xs : List OpenOut). number_past label 0 xs) (sym more))),
     )
 
 -- the place that a table has for a name is that of the first pad with the name
@@ -165,7 +167,7 @@ module _ (pads : List OpenOut) (table : PadTable) (called : AreCalled (pad_names
   pad_found name o is = go (pad_called table name) (called name) where
     go : (found : Option ℕ) → Finds (pad_names pads) name found → found ≡ Some o
     go None none = absurd (none o is.holds)
-    go (Some place) first = ap (λ (k : ℕ). Some k) (least_same first is)
+    go (Some place) first = ap (λ (k : ℕ). Some k) (first_same first is)
 
   pub found_within : (count : ℕ) → count ≡ length pads → (name : Name) → IfSome (pad_called table name) (λ o. o < count)
   found_within count each name = go (pad_called table name) (called name) where
@@ -193,8 +195,8 @@ marks_more count place places marks low is = record {
   within = let each = is.each in omega arith
 
 -- the first that isn't marked is the first that no place is
-pub left_unmarked : {count : ℕ} {places : List ℕ} {marks : List Bool} {k : ℕ} → MarksThese count places marks → IsLeast (λ o. (o < length marks) × ¬ IsMarked marks o) k → IsLeast (IsLeft places count) k
-left_unmarked {count} {places} {marks} {k} is left = least_along
+pub left_unmarked : {count : ℕ} {places : List ℕ} {marks : List Bool} {k : ℕ} → MarksThese count places marks → IsFirst (λ o. (o < length marks) × ¬ IsMarked marks o) k → IsFirst (IsLeft places count) k
+left_unmarked {count} {places} {marks} {k} is left = first_along
     (λ o h. ((let each = is.each in let low = h.0 in omega arith), λ contains. h.1 ((is.marked o).1 contains)))
     (λ o h. ((let each = is.each in let low = h.0 in omega arith), λ marked. h.1 ((is.marked o).0 marked)))
     left

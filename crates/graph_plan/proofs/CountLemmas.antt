@@ -13,9 +13,9 @@ use Rattle.graph_plan.specs.Graphs.{Graph, places, places_of, labels, kinds, kin
 use Rattle.graph_plan.specs.Refusals.{HasMoreLabels, LacksInput, HasWrongPads, link_count}
 use Rattle.graph_plan.specs.Joining.{IsCounted}
 use Rattle.std.proofs.lemmas.List.Sums.{sum_by_more_le}
-use Rattle.graph_plan.proofs.ListLemmas.{get_within}
+use Rattle.av_base.proofs.Lists.{get_within}
 
--- where nothing stands, the list is no longer
+-- if there is no element at a place, the list ends before it
 past_none : {X : Type 0} (xs : List X) (k : ℕ) → slice_get xs k ≡ None → length xs ≤ k
 past_none xs k none = elim (cases_lt k (length xs)) [
   | inl low ↦ absurd (let here = get_within xs k low in let is = here.1 in cc)

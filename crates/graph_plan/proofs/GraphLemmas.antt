@@ -15,12 +15,14 @@ use Rattle.graph_plan.specs.declared.plan.Source.TheVariants as from
 use Rattle.graph_plan.specs.declared.places.Place.{Place}
 use Rattle.graph_plan.specs.declared.places.Side.{Side}
 use Rattle.graph_plan.specs.declared.places.Side.TheVariants.{In, Out}
-use Rattle.graph_plan.specs.Least.{IsLeast, Never}
+use Rattle.av_base.specs.First.{IsFirst, Never}
+use Rattle.av_base.proofs.Lists.{get_within, contained, place_of, append_get, append_get_left, append_get_right}
+use Rattle.av_base.proofs.Arithmetic.{first_same}
 use Rattle.graph_plan.specs.Graphs.{Graph, item_of, item, places_of, places, IsBefore, labels, kinds, label, kind, AreNeighbours, AreJoined, SaysKind, SaysFile, NamesFile, IsOpen}
 use Rattle.graph_plan.specs.Graphs.SaysKind.{plain, video, first_video, audio, first_audio}
 use Rattle.graph_plan.specs.Links.{IsLeft, IsOrigin}
 use Rattle.graph_plan.specs.Refusals.{HasWrongPads, IsOnOutput, HasLabelTwice}
-use Rattle.graph_plan.proofs.ListLemmas.{get_within, contained, place_of, cases_Option, append_get, append_get_left, append_get_right, least_same}
+use Rattle.graph_plan.proofs.ListLemmas.{cases_Option}
 
 -- ---- items of a filter's list
 
@@ -86,7 +88,7 @@ places_of_at filter pad (suc count) (suc k) low =
     let e : pad + 1 + k ≡ pad + suc k = omega arith in
     places_of_at filter (pad + 1) count k (omega arith) ∙ ap (λ (n : ℕ). let x : Option Place = Some (record { filter = filter; pad = n }) in x) e
 
--- a place of them has the filter, and its number is as far behind the first as it stands
+-- a place of them has the filter, and its number is the first plus its index
 pub places_of_get : (filter pad count k : ℕ) (a : Place) → slice_get (places_of filter pad count) k ≡ Some a → (a.filter ≡ filter) × (a.pad ≡ pad + k) × (k < count)
 places_of_get filter pad count k a e =
     let within = slice_get_within (places_of filter pad count) k a e in
@@ -104,7 +106,7 @@ places_of_more filter pad (suc count) =
     let one : count + 1 ≡ suc count = add-one count in
     rw add-one (ap (λ (ps : List Place). (let x : Place = record { filter = filter; pad = pad } in x) ∷ ps) (rw one at more))
 
--- the places of further filters come behind
+-- the places of further filters come after
 pub places_append : {X : Type 0} (count : X → ℕ) (filter : ℕ) (xs ys : List X) → places count filter (xs ++ ys) ≡ places count filter xs ++ places count (filter + length xs) ys
 places_append count filter [] ys = let e : filter ≡ filter + 0 = omega arith in ap (λ (n : ℕ). places count n ys) e
 places_append count filter (x ∷ xs) ys =
@@ -124,7 +126,7 @@ pub places_filter : {X : Type 0} (count : X → ℕ) (filter : ℕ) (xs : List X
 places_filter count filter [] k a e = absurd (cc)
 places_filter count filter (x ∷ xs) k a e = elim (append_get (places_of filter 0 (count x)) (places count (filter + 1) xs) k a e) [
   | inl here ↦ (let at = places_of_get filter 0 (count x) k a here in (0, x, (let f = at.0 in omega arith), refl, (let low = at.2 in let same = at.1 in omega arith)))
-  | inr behind ↦ (let more = places_filter count (filter + 1) xs behind.0 a behind.2 in (suc more.0, more.1, (let f = more.2 in omega arith), more.3, more.4))
+  | inr rest ↦ (let more = places_filter count (filter + 1) xs rest.0 a rest.2 in (suc more.0, more.1, (let f = more.2 in omega arith), more.3, more.4))
 ]
 
 -- and each pad of one of them is one of the places
@@ -143,13 +145,13 @@ places_has count filter (y ∷ xs) (suc i) x a f at low =
 -- places rise
 pub places_rise : {X : Type 0} (count : X → ℕ) (filter : ℕ) (xs : List X) (i j : ℕ) (a b : Place) → slice_get (places count filter xs) i ≡ Some a → slice_get (places count filter xs) j ≡ Some b → i < j → IsBefore a b
 places_rise count filter [] i j a b p q less = absurd (cc)
-places_rise count filter (x ∷ xs) i j a b p q less = rise (append_get (places_of filter 0 (count x)) behind i a p) (append_get (places_of filter 0 (count x)) behind j b q) (λ (k l : ℕ). places_rise count (filter + 1) xs k l a b) where
-  behind : List Place
-  behind = places count (filter + 1) xs
+places_rise count filter (x ∷ xs) i j a b p q less = rise (append_get (places_of filter 0 (count x)) rest i a p) (append_get (places_of filter 0 (count x)) rest j b q) (λ (k l : ℕ). places_rise count (filter + 1) xs k l a b) where
+  rest : List Place
+  rest = places count (filter + 1) xs
 
-  rise : (slice_get (places_of filter 0 (count x)) i ≡ Some a) ⊎ ((k : ℕ) × (i ≡ length (places_of filter 0 (count x)) + k) × (slice_get behind k ≡ Some a))
-      → (slice_get (places_of filter 0 (count x)) j ≡ Some b) ⊎ ((l : ℕ) × (j ≡ length (places_of filter 0 (count x)) + l) × (slice_get behind l ≡ Some b))
-      → ((k l : ℕ) → slice_get behind k ≡ Some a → slice_get behind l ≡ Some b → k < l → IsBefore a b) → IsBefore a b
+  rise : (slice_get (places_of filter 0 (count x)) i ≡ Some a) ⊎ ((k : ℕ) × (i ≡ length (places_of filter 0 (count x)) + k) × (slice_get rest k ≡ Some a))
+      → (slice_get (places_of filter 0 (count x)) j ≡ Some b) ⊎ ((l : ℕ) × (j ≡ length (places_of filter 0 (count x)) + l) × (slice_get rest l ≡ Some b))
+      → ((k l : ℕ) → slice_get rest k ≡ Some a → slice_get rest l ≡ Some b → k < l → IsBefore a b) → IsBefore a b
   rise (inl u) (inl v) more =
       let first = places_of_get filter 0 (count x) i a u in
       let second = places_of_get filter 0 (count x) j b v in
@@ -161,7 +163,7 @@ places_rise count filter (x ∷ xs) i j a b p q less = rise (append_get (places_
   rise (inr u) (inl v) more = absurd (let within = slice_get_within (places_of filter 0 (count x)) j b v in let e = u.1 in omega arith)
   rise (inr u) (inr v) more = more u.0 v.0 u.2 v.2 (let m = u.1 in let n = v.1 in omega arith)
 
--- a place stands once
+-- a place occurs once
 pub places_once : {X : Type 0} (count : X → ℕ) (filter : ℕ) (xs : List X) (i j : ℕ) (a : Place) → slice_get (places count filter xs) i ≡ Some a → slice_get (places count filter xs) j ≡ Some a → i ≡ j
 places_once count filter xs i j a p q = elim (cases_order i j) [
   | inl same ↦ same
@@ -171,7 +173,7 @@ places_once count filter xs i j a p q = elim (cases_order i j) [
   ]
 ]
 
--- an item is there where its place is one of all
+-- an item is there if its place is one of all
 pub item_places : {X Y : Type 0} (list : X → List Y) (xs : List X) (a : Place) (y : Y) → item list xs a.filter a.pad ≡ Some y → Contains (places (λ (x : X). length (list x)) 0 xs) a
 item_places {X} list xs a y e =
     let at = item_at list xs a.filter a.pad y e in
@@ -187,9 +189,9 @@ places_item {X} list xs a here =
     let e : a.filter ≡ of.0 = (let f = of.2 in omega arith) in
     (there.0, item_is list xs a.filter a.pad of.1 (ap (slice_get xs) e ∙ of.3) ∙ there.1)
 
--- ---- labels stand once
+-- ---- labels occur once
 
--- no output pad's label stands on two
+-- no output pad's label is on two
 pub one_output : (graph : Graph) → Never (HasLabelTwice graph) → (a b : Place) (name : List ℕ) → label graph Out a.filter a.pad ≡ Some name → label graph Out b.filter b.pad ≡ Some name → a ≡ b
 one_output graph once a b name p q = elim (cases_place a b) [
   | inl same ↦ same
@@ -199,7 +201,7 @@ one_output graph once a b name p q = elim (cases_place a b) [
   ])
 ]
 
--- no label of an output pad stands on two input pads
+-- no label of an output pad is on two input pads
 pub one_input : (graph : Graph) → Never (HasLabelTwice graph) → (a b : Place) (name : List ℕ) → IsOnOutput graph name → label graph In a.filter a.pad ≡ Some name → label graph In b.filter b.pad ≡ Some name → a ≡ b
 one_input graph once a b name such p q = elim (cases_place a b) [
   | inl same ↦ same
@@ -319,15 +321,15 @@ abbrev BeginsBare : List ℕ → Type 0
 BeginsBare [] = Unit {0}
 BeginsBare (c ∷ rest) = digit_value c < 10 → ⊥
 
--- what stands behind a number begins with no digit
-kind_bare : (behind : List ℕ) (said : Option Media) → SaysKind behind said → BeginsBare behind
+-- what comes after a number begins with no digit
+kind_bare : (suffix : List ℕ) (said : Option Media) → SaysKind suffix said → BeginsBare suffix
 kind_bare _ _ plain = tt
 kind_bare _ _ video = λ low. omega arith
 kind_bare _ _ first_video = λ low. omega arith
 kind_bare _ _ audio = λ low. omega arith
 kind_bare _ _ first_audio = λ low. omega arith
 
--- a text splits into digits and what stands behind them in one way
+-- a text splits into digits and what comes after them in one way
 digits_once : (a b r s : List ℕ) → AllDigits 10 a → AllDigits 10 b → BeginsBare r → BeginsBare s → a ++ r ≡ b ++ s → (a ≡ b) × (r ≡ s)
 digits_once [] [] r s p q u v e = (refl, e)
 digits_once [] (c ∷ b) r s p q u v e = absurd (let P : List ℕ → Type 0 = λ l. BeginsBare l in subst P e u q.0)
@@ -338,13 +340,13 @@ digits_once (c ∷ a) (d ∷ b) r s p q u v e =
     let more = digits_once a b r s p.1 q.1 u v rest in
     (let tail = more.0 in cc, more.1)
 
--- what a text behind a number says
+-- what a text after a number says
 abbrev said_by : List ℕ → Option Media
 said_by [] = None
 said_by (c ∷ []) = None
 said_by (c ∷ d ∷ rest) = cond (d == 118) (Some media.Video) (Some media.Audio)
 
-kind_said : (behind : List ℕ) (said : Option Media) → SaysKind behind said → said ≡ said_by behind
+kind_said : (suffix : List ℕ) (said : Option Media) → SaysKind suffix said → said ≡ said_by suffix
 kind_said _ _ plain = refl
 kind_said _ _ video = refl
 kind_said _ _ first_video = refl
@@ -354,9 +356,9 @@ kind_said _ _ first_audio = refl
 -- a label says one file, and one kind
 pub says_once : (name : List ℕ) (a b : ℕ) (s t : Option Media) → SaysFile name a s → SaysFile name b t → (a ≡ b) × (s ≡ t)
 says_once name a b s t p q =
-    let parts = digits_once p.digits q.digits p.behind q.behind p.number.digits q.number.digits (kind_bare p.behind s p.kind_said) (kind_bare q.behind t q.kind_said) (sym p.name_is ∙ q.name_is) in (
+    let parts = digits_once p.digits q.digits p.suffix q.suffix p.number.digits q.number.digits (kind_bare p.suffix s p.kind_said) (kind_bare q.suffix t q.kind_said) (sym p.name_is ∙ q.name_is) in (
       p.number.value ∙ (ap (digits_value 10) parts.0 ∙ sym q.number.value),
-      kind_said p.behind s p.kind_said ∙ (ap said_by parts.1 ∙ sym (kind_said q.behind t q.kind_said)),
+      kind_said p.suffix s p.kind_said ∙ (ap said_by parts.1 ∙ sym (kind_said q.suffix t q.kind_said)),
     )
 
 -- an input pad's label names one file
@@ -368,7 +370,7 @@ one_named graph taker a b s t p q =
 
 -- ---- origins
 
--- an input pad has one origin behind these links
+-- an input pad has one origin after these links
 pub one_origin : (graph : Graph) → Never (HasLabelTwice graph) → (before : List Edge) (taker : Place) (a b : Source) → IsOrigin graph before taker a → IsOrigin graph before taker b → a ≡ b
 one_origin graph once before taker a b (inl p) (inl q) =
     let same : p.0 ≡ q.0 = one_giver graph once p.0 q.0 taker p.2 q.2 in
@@ -382,8 +384,8 @@ one_origin graph once before taker a b (inr (inr p)) (inl q) = absurd (joined_no
 one_origin graph once before taker a b (inr (inr p)) (inr (inl q)) = absurd (named_not_open graph taker q.0 q.1 q.3 p.3)
 one_origin graph once before taker a b (inr (inr p)) (inr (inr q)) =
     let wanted : q.0 ≡ p.0 = same_Some q.0 p.0 (sym q.4 ∙ p.4) in
-    let P : Media → Type 0 = λ m. IsLeast (IsLeft graph before m) q.1 in
-    let files : p.1 ≡ q.1 = least_same p.5 (subst P wanted q.5) in
+    let P : Media → Type 0 = λ m. IsFirst (IsLeft graph before m) q.1 in
+    let files : p.1 ≡ q.1 = first_same p.5 (subst P wanted q.5) in
     p.2 ∙ (ap (λ (n : ℕ). from.Input n) files ∙ sym q.2)
 
 -- an open input pad of whose kind no file is left has none
@@ -393,5 +395,5 @@ no_origin graph before taker origin wanted open_pad e none (inl p) = joined_not_
 no_origin graph before taker origin wanted open_pad e none (inr (inl p)) = named_not_open graph taker p.0 p.1 p.3 open_pad
 no_origin graph before taker origin wanted open_pad e none (inr (inr p)) =
     let same : p.0 ≡ wanted = same_Some p.0 wanted (sym p.4 ∙ e) in
-    let P : Media → Type 0 = λ m. IsLeast (IsLeft graph before m) p.1 in
+    let P : Media → Type 0 = λ m. IsFirst (IsLeft graph before m) p.1 in
     none p.1 (subst P same p.5).holds

@@ -11,7 +11,9 @@ use Rattle.graph_plan.specs.declared.places.Side.TheVariants.{In}
 use Rattle.graph_plan.specs.declared.origins.Origin.{Origin}
 use Rattle.graph_plan.specs.declared.origins.Origin.TheVariants.{Pad, File, Open}
 use Rattle.graph_plan.specs.declared.origins.Inlet.{Inlet}
-use Rattle.graph_plan.specs.Least.{IsLeast, Never}
+use Rattle.av_base.specs.First.{IsFirst, Never}
+use Rattle.av_base.proofs.Lists.{get_within, contained, place_of}
+use Rattle.av_base.proofs.Arithmetic.{first_along}
 use Rattle.graph_plan.specs.Refusals.{HasCycle}
 use Rattle.graph_plan.specs.Orders.{Feeds, LeadsTo, Directly, Through, Reaches, IsReady, Comes, IsOrder, AreBelow}
 use Rattle.graph_plan.proofs.OrderLemmas.{comes_straight, done_none, leads_below}
@@ -19,7 +21,6 @@ use Rattle.graph_plan.proofs.LinkLemmas.{takes_below}
 use Rattle.graph_plan.specs.Links.{link_to}
 use Rattle.graph_plan.specs.Graphs.{Graph, kinds, kind, pads_on, AreJoined, TakesFrom}
 use Rattle.graph_plan.specs.Joining.{IsJoinedBy, IsOriginOf, IsInlet, AreInlets, FitsTogether}
-use Rattle.graph_plan.proofs.ListLemmas.{get_within, contained, place_of, least_along}
 use Rattle.graph_plan.proofs.GraphLemmas.{item_places, one_giver, joined_not_named, joined_not_open, joined_taker_is_there}
 use Rattle.graph_plan.proofs.ScanLemmas.{taker_at, inlet_count}
 use Rattle.std.proofs.lemmas.Option.{same_Some, get_or_from_slice_get}
@@ -101,7 +102,7 @@ module _ (graph : Graph) (fit : FitsTogether graph) (inlets : List Inlet) (are :
   pub inlet_is : (inlet : Inlet) → Contains inlets inlet → IsInlet graph inlet
   inlet_is inlet here = let P : Inlet → Type 0 = λ i. IsInlet graph i in subst P here.2 (are.each here.0 inlet here.1)
 
-  -- where an output pad gives to an input pad, that is its origin
+  -- if an output pad gives to an input pad, that is its origin
   pub pad_origin : (taker out : Place) (origin : Origin) → IsOriginOf graph taker origin → AreJoined graph out taker → origin ≡ Pad out
   pad_origin taker out (Pad giver) is joined = ap Pad (one_giver graph fit.labels giver out taker is joined)
   pad_origin taker out (File file said) is joined = absurd (joined_not_named graph out taker file said joined is)
@@ -176,6 +177,6 @@ module _ (graph : Graph) (fit : FitsTogether graph) (inlets : List Inlet) (are :
       let back = leads_along (TakesFrom graph) (Feeds edges) takes_feeds filter filter reaches in
       comes_straight (Feeds edges) (length graph.calls) [] order filter (done_none (Feeds edges) (length graph.calls)) is (leads_below (Feeds edges) (length graph.calls) filter filter edges_below back) back
 
-  pub least_cycle : (filter : ℕ) → IsLeast (λ f. Reaches (Feeds edges) f f) filter → IsLeast (HasCycle graph) filter
-  least_cycle filter is =
-      least_along (λ f reaches. leads_along (Feeds edges) (TakesFrom graph) feeds_takes f f reaches) (λ f reaches. leads_along (TakesFrom graph) (Feeds edges) takes_feeds f f reaches) is
+  pub lowest_cycle : (filter : ℕ) → IsFirst (λ f. Reaches (Feeds edges) f f) filter → IsFirst (HasCycle graph) filter
+  lowest_cycle filter is =
+      first_along (λ f reaches. leads_along (Feeds edges) (TakesFrom graph) feeds_takes f f reaches) (λ f reaches. leads_along (TakesFrom graph) (Feeds edges) takes_feeds f f reaches) is

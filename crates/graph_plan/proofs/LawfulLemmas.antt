@@ -26,7 +26,8 @@ use Rattle.graph_plan.specs.Links.{link_to, AreLinks, out_pad, AreLeft, IsOrigin
 use Rattle.graph_plan.specs.Refusals.{IsSmall, IsSound, IsLinked}
 use Rattle.graph_plan.specs.Bindings.{IsBound}
 use Rattle.graph_plan.specs.Lawful.{given, CanTake, IsLawful, PlansAreLawful}
-use Rattle.graph_plan.proofs.ListLemmas.{get_within, contained, place_of, first_get, append_get}
+use Rattle.graph_plan.proofs.ListLemmas.{first_get}
+use Rattle.av_base.proofs.Lists.{get_within, contained, place_of, append_get}
 use Rattle.graph_plan.proofs.OrderLemmas.{AreDistinct, distinct_none, distinct_push, distinct_all}
 use Rattle.graph_plan.proofs.GraphLemmas.{same_place, places_once, item_places, places_item, joined_giver_is_there}
 use Rattle.graph_plan.proofs.LinkLemmas.{takes_below}
@@ -79,7 +80,7 @@ origin_agrees graph outputs small sound before taker origin wants is (inr (inl n
 origin_agrees graph outputs small sound before taker origin wants is (inr (inr left)) =
     ap (given graph) left.2 ∙ (left.5.holds.is_file ∙ (sym left.4 ∙ is))
 
--- where an input pad takes from an output pad, the text says so
+-- if an input pad takes from an output pad, the text says so
 pub origin_takes : (graph : Graph) (before : List Edge) (taker : Place) (origin : Source) (giver : Place) → origin ≡ from.Filter giver.filter giver.pad → IsOrigin graph before taker origin → AreJoined graph giver taker
 origin_takes graph before taker origin giver e (inl joined) =
     let ends : from.Filter joined.0.filter joined.0.pad ≡ from.Filter giver.filter giver.pad = sym joined.1 ∙ e in
@@ -97,7 +98,7 @@ left_gives graph (giver ∷ givers) opens (inl are) o p e = left_gives graph giv
 left_gives graph (giver ∷ givers) opens (inr are) o p e =
     elim (first_get (out_pad graph giver are.1.0) are.1.1 o p (ap (λ (l : List OpenOut). slice_get l o) (sym are.1.3) ∙ e)) [
       | inl same ↦ (let P : OpenOut → Type 0 = λ x. kind graph Out x.filter x.pad ≡ Some x.media in subst P same are.1.2)
-      | inr behind ↦ left_gives graph givers are.1.1 are.1.4 behind.0 p behind.2
+      | inr later ↦ left_gives graph givers are.1.1 are.1.4 later.0 p later.2
     ]
 
 -- ---- the order
@@ -107,12 +108,12 @@ pub comes_distinct : (R : ℕ → ℕ → Type 0) (count : ℕ) (done filters : 
 comes_distinct R count done [] are all = rw (append-nil done) (are, all)
 comes_distinct R count done (filter ∷ filters) are comes = rw append_assoc at (comes_distinct R count (done ++ filter ∷ []) filters (distinct_push count done filter are comes.0 comes.1) comes.4)
 
--- a filter comes behind those that it takes from
-pub comes_behind : (R : ℕ → ℕ → Type 0) (count : ℕ) (done filters : List ℕ) → Comes R count done filters → (giver taker : ℕ) → R giver taker → (j : ℕ) → slice_get filters j ≡ Some taker
+-- a filter comes after those that it takes from
+pub comes_after : (R : ℕ → ℕ → Type 0) (count : ℕ) (done filters : List ℕ) → Comes R count done filters → (giver taker : ℕ) → R giver taker → (j : ℕ) → slice_get filters j ≡ Some taker
     → Contains done giver ⊎ ((i : ℕ) × (slice_get filters i ≡ Some giver) × (i < j))
-comes_behind R count done [] comes giver taker takes j e = absurd (cc)
-comes_behind R count done (filter ∷ filters) comes giver taker takes zero e = inl (comes.2 giver (let same : filter ≡ taker = same_Some filter taker e in subst (R giver) (sym same) takes))
-comes_behind R count done (filter ∷ filters) comes giver taker takes (suc j) e = elim (comes_behind R count (done ++ filter ∷ []) filters comes.4 giver taker takes j e) [
+comes_after R count done [] comes giver taker takes j e = absurd (cc)
+comes_after R count done (filter ∷ filters) comes giver taker takes zero e = inl (comes.2 giver (let same : filter ≡ taker = same_Some filter taker e in subst (R giver) (sym same) takes))
+comes_after R count done (filter ∷ filters) comes giver taker takes (suc j) e = elim (comes_after R count (done ++ filter ∷ []) filters comes.4 giver taker takes j e) [
   | inl before ↦ elim (Contains-push_cases done filter giver before) [
     | inl old ↦ inl old
     | inr same ↦ inr (0, ap Some same, omega arith)
@@ -120,7 +121,7 @@ comes_behind R count done (filter ∷ filters) comes giver taker takes (suc j) e
   | inr here ↦ inr (suc here.0, here.1, (let less = here.2 in omega arith))
 ]
 
--- an element of a list without equal ones stands at one place
+-- an element of a list without equal ones is at one place
 pub distinct_once : (count : ℕ) (filters : List ℕ) → AreDistinct count filters → (i j filter : ℕ) → slice_get filters i ≡ Some filter → slice_get filters j ≡ Some filter → i ≡ j
 distinct_once count filters are i j filter p q = elim (cases_order i j) [
   | inl same ↦ same
@@ -262,12 +263,12 @@ module _ (graph : Graph) (outputs : ℕ) (draft : DraftPlan) (files : List Outpu
   filters : (filter : ℕ) → filter < length graph.calls → Contains plan.order filter
   filters filter low = ordered (λ (l : List ℕ). Contains l filter) (distinct_all (length graph.calls) draft.order order_distinct.0 order_distinct.1 filter low)
 
-  behind : (giver taker : ℕ) → Feeds plan.links giver taker → (i j : ℕ) × (slice_get plan.order i ≡ Some giver) × (slice_get plan.order j ≡ Some taker) × (i < j)
-  behind giver taker feeds =
+  after : (giver taker : ℕ) → Feeds plan.links giver taker → (i j : ℕ) × (slice_get plan.order i ≡ Some giver) × (slice_get plan.order j ≡ Some taker) × (i < j)
+  after giver taker feeds =
       let does = takes giver taker feeds in
       let low = (takes_below graph).takers giver taker does in
       let at = place_of draft.order taker (distinct_all (length graph.calls) draft.order order_distinct.0 order_distinct.1 taker low) in
-      elim (comes_behind (TakesFrom graph) (length graph.calls) [] draft.order is.linked.draft_is.order giver taker does at.0 at.2) [
+      elim (comes_after (TakesFrom graph) (length graph.calls) [] draft.order is.linked.draft_is.order giver taker does at.0 at.2) [
         | inl none ↦ absurd (let k : none.0 < 0 = none.1 in omega arith)
         | inr first ↦ (first.0, at.0, ordered (λ (l : List ℕ). slice_get l first.0 ≡ Some giver) first.1, ordered (λ (l : List ℕ). slice_get l at.0 ≡ Some taker) at.2, first.2)
       ]
@@ -282,7 +283,7 @@ module _ (graph : Graph) (outputs : ℕ) (draft : DraftPlan) (files : List Outpu
     below = λ filter here. order_distinct.0.below filter (let P : List ℕ → Type 0 = λ l. Contains l filter in subst P is.bound.order here);
     distinct = λ i j filter p q. distinct_once (length graph.calls) draft.order order_distinct.0 i j filter
         (let P : List ℕ → Type 0 = λ l. slice_get l i ≡ Some filter in subst P is.bound.order p) (let P : List ℕ → Type 0 = λ l. slice_get l j ≡ Some filter in subst P is.bound.order q);
-    behind = behind;
+    after = after;
   }
 
 pub plans_are_lawful : PlansAreLawful

@@ -1,6 +1,6 @@
 -- Graphs link in one way.
 use Rattle.std.specs.Prelude.{IfOk}
-use Rattle.std.proofs.Common.{◌≡◌, ◌++◌, Result, Ok, Err, ℕ, List, [], ◌∷◌, length, refl, sym, ◌∙◌, ap, subst, inl, inr}
+use Rattle.std.proofs.Common.{◌≡◌, ◌++◌, Result, ℕ, List, [], ◌∷◌, length, refl, sym, ◌∙◌, ap, subst, inl, inr}
 use Rattle.std.proofs.lemmas.Option.{same_Some}
 use Rattle.graph_plan.specs.declared.plan.Edge.{Edge}
 use Rattle.graph_plan.specs.declared.plan.Source.{Source}
@@ -10,15 +10,15 @@ use Rattle.graph_plan.specs.declared.plan.PlanFault.{PlanFault}
 use Rattle.graph_plan.specs.declared.plan.PlanFault.TheVariants.{TooManyLinks, PadCount, LabelTwice, UnknownInput, MediaMismatch, Cycle, OpenPad}
 use Rattle.graph_plan.specs.declared.places.Place.{Place}
 use Rattle.graph_plan.specs.declared.places.Side.TheVariants.{In, Out}
-use Rattle.graph_plan.specs.declared.plan.PlanError.{PlanError}
-use Rattle.graph_plan.specs.declared.plan.PlanError.TheVariants.{Fault, NoMemory}
-use Rattle.graph_plan.specs.Bindings.{IfFault, Gives, Refuses}
-use Rattle.graph_plan.specs.Least.{Never}
+use Rattle.av_base.specs.declared.failure.Failure.{Failure}
+use Rattle.av_base.proofs.FailureLemmas.{gives_from, refuses_from}
+use Rattle.av_base.specs.Failures.{IfFault, Gives, Refuses}
+use Rattle.av_base.specs.First.{Never}
+use Rattle.av_base.proofs.Arithmetic.{first_same}
 use Rattle.graph_plan.specs.Orders.{AreBelow}
 use Rattle.graph_plan.specs.Graphs.{Graph, pads_on, TakesFrom}
 use Rattle.graph_plan.specs.Links.{link_to, AreLinks, out_pad, AreLeft}
 use Rattle.graph_plan.specs.Refusals.{HasLabelTwice, FindsNone, IsSmall, IsLinkFault, IsLinked, GraphsLinkInOneWay}
-use Rattle.graph_plan.proofs.ListLemmas.{least_same}
 use Rattle.graph_plan.proofs.OrderLemmas.{same_comes, leads_below, done_none, comes_straight}
 use Rattle.graph_plan.proofs.GraphLemmas.{one_origin, no_origin, joined_giver_within, joined_taker_within}
 
@@ -89,7 +89,7 @@ one_fault graph outputs TooManyLinks (Cycle b) p q = absurd (q.0.few p)
 one_fault graph outputs TooManyLinks (OpenPad b d) p q = absurd (q.0.few p)
 one_fault graph outputs TooManyLinks g p q = absurd q
 one_fault graph outputs (PadCount a) TooManyLinks p q = absurd (p.0 q)
-one_fault graph outputs (PadCount a) (PadCount b) p q = ap PadCount (least_same p.1 q.1)
+one_fault graph outputs (PadCount a) (PadCount b) p q = ap PadCount (first_same p.1 q.1)
 one_fault graph outputs (PadCount a) (LabelTwice b) p q = absurd (q.1 a p.1.holds)
 one_fault graph outputs (PadCount a) (UnknownInput b) p q = absurd (q.1 a p.1.holds)
 one_fault graph outputs (PadCount a) (MediaMismatch b) p q = absurd (q.1 a p.1.holds)
@@ -98,7 +98,7 @@ one_fault graph outputs (PadCount a) (OpenPad b d) p q = absurd (q.0.pads a p.1.
 one_fault graph outputs (PadCount a) g p q = absurd q
 one_fault graph outputs (LabelTwice a) TooManyLinks p q = absurd (p.0 q)
 one_fault graph outputs (LabelTwice a) (PadCount b) p q = absurd (p.1 b q.1.holds)
-one_fault graph outputs (LabelTwice a) (LabelTwice b) p q = ap LabelTwice (least_same p.2 q.2)
+one_fault graph outputs (LabelTwice a) (LabelTwice b) p q = ap LabelTwice (first_same p.2 q.2)
 one_fault graph outputs (LabelTwice a) (UnknownInput b) p q = absurd (q.2 a p.2.holds)
 one_fault graph outputs (LabelTwice a) (MediaMismatch b) p q = absurd (q.2 a p.2.holds)
 one_fault graph outputs (LabelTwice a) (Cycle b) p q = absurd (q.0.labels a p.2.holds)
@@ -107,7 +107,7 @@ one_fault graph outputs (LabelTwice a) g p q = absurd q
 one_fault graph outputs (UnknownInput a) TooManyLinks p q = absurd (p.0 q)
 one_fault graph outputs (UnknownInput a) (PadCount b) p q = absurd (p.1 b q.1.holds)
 one_fault graph outputs (UnknownInput a) (LabelTwice b) p q = absurd (p.2 b q.2.holds)
-one_fault graph outputs (UnknownInput a) (UnknownInput b) p q = ap UnknownInput (least_same p.3 q.3)
+one_fault graph outputs (UnknownInput a) (UnknownInput b) p q = ap UnknownInput (first_same p.3 q.3)
 one_fault graph outputs (UnknownInput a) (MediaMismatch b) p q = absurd (q.3 a p.3.holds)
 one_fault graph outputs (UnknownInput a) (Cycle b) p q = absurd (q.0.inputs a p.3.holds)
 one_fault graph outputs (UnknownInput a) (OpenPad b d) p q = absurd (q.0.inputs a p.3.holds)
@@ -116,7 +116,7 @@ one_fault graph outputs (MediaMismatch a) TooManyLinks p q = absurd (p.0 q)
 one_fault graph outputs (MediaMismatch a) (PadCount b) p q = absurd (p.1 b q.1.holds)
 one_fault graph outputs (MediaMismatch a) (LabelTwice b) p q = absurd (p.2 b q.2.holds)
 one_fault graph outputs (MediaMismatch a) (UnknownInput b) p q = absurd (p.3 b q.3.holds)
-one_fault graph outputs (MediaMismatch a) (MediaMismatch b) p q = ap MediaMismatch (least_same p.4 q.4)
+one_fault graph outputs (MediaMismatch a) (MediaMismatch b) p q = ap MediaMismatch (first_same p.4 q.4)
 one_fault graph outputs (MediaMismatch a) (Cycle b) p q = absurd (q.0.kinds a p.4.holds)
 one_fault graph outputs (MediaMismatch a) (OpenPad b d) p q = absurd (q.0.kinds a p.4.holds)
 one_fault graph outputs (MediaMismatch a) g p q = absurd q
@@ -125,7 +125,7 @@ one_fault graph outputs (Cycle a) (PadCount b) p q = absurd (p.0.pads b q.1.hold
 one_fault graph outputs (Cycle a) (LabelTwice b) p q = absurd (p.0.labels b q.2.holds)
 one_fault graph outputs (Cycle a) (UnknownInput b) p q = absurd (p.0.inputs b q.3.holds)
 one_fault graph outputs (Cycle a) (MediaMismatch b) p q = absurd (p.0.kinds b q.4.holds)
-one_fault graph outputs (Cycle a) (Cycle b) p q = ap Cycle (least_same p.1 q.1)
+one_fault graph outputs (Cycle a) (Cycle b) p q = ap Cycle (first_same p.1 q.1)
 one_fault graph outputs (Cycle a) (OpenPad b d) p q = absurd (q.1 a p.1.holds)
 one_fault graph outputs (Cycle a) g p q = absurd q
 one_fault graph outputs (OpenPad a c) TooManyLinks p q = absurd (p.0.few q)
@@ -142,7 +142,7 @@ one_fault graph outputs f g p q = absurd p
 
 -- ---- never both
 
--- where each input pad has its link, none finds none
+-- if each input pad has its link, none finds none
 links_or_none : (graph : Graph) → Never (HasLabelTwice graph) → (before : List Edge) (takers : List Place) (links : List Edge) (filter pad : ℕ) → AreLinks graph before takers links → FindsNone graph before takers filter pad → ⊥
 links_or_none graph once before [] links filter pad p q = q
 links_or_none graph once before (taker ∷ takers) [] filter pad p q = p
@@ -168,16 +168,12 @@ not_both graph outputs draft f small p q = q
 pub graphs_link_in_one_way : GraphsLinkInOneWay
 graphs_link_in_one_way = record { one_draft = one_draft; one_fault = one_fault; not_both = not_both }
 
--- ---- what the call answers, where there is a draft, and where there is a fault
+-- ---- what the call returns if there is a draft, and if there is a fault
 
-pub links : (graph : Graph) (outputs : ℕ) → IsSmall graph → (r : Result DraftPlan PlanError) → IfOk r (IsLinked graph outputs) → IfFault r (IsLinkFault graph outputs)
-    → (draft : DraftPlan) → IsLinked graph outputs draft → Gives draft r
-links graph outputs small (Ok plan) p q other is = graphs_link_in_one_way.one_draft graph outputs plan other p is
-links graph outputs small (Err (Fault f)) p q other is = graphs_link_in_one_way.not_both graph outputs other f small is q
-links graph outputs small (Err NoMemory) p q other is = tt
+pub links : (graph : Graph) (outputs : ℕ) → IsSmall graph → (r : Result DraftPlan (Failure PlanFault)) → IfOk r (IsLinked graph outputs) → IfFault r (IsLinkFault graph outputs)
+    → (draft : DraftPlan) → IsLinked graph outputs draft → Gives (λ made. made ≡ draft) r
+links graph outputs small r p q draft is = gives_from r p q (λ made made_is. graphs_link_in_one_way.one_draft graph outputs made draft made_is is) (λ f f_is. graphs_link_in_one_way.not_both graph outputs draft f small is f_is)
 
-pub refuses : (graph : Graph) (outputs : ℕ) → IsSmall graph → (r : Result DraftPlan PlanError) → IfOk r (IsLinked graph outputs) → IfFault r (IsLinkFault graph outputs)
-    → (f : PlanFault) → IsLinkFault graph outputs f → Refuses f r
-refuses graph outputs small (Ok plan) p q f is = graphs_link_in_one_way.not_both graph outputs plan f small p is
-refuses graph outputs small (Err (Fault g)) p q f is = graphs_link_in_one_way.one_fault graph outputs g f q is
-refuses graph outputs small (Err NoMemory) p q f is = tt
+pub refuses : (graph : Graph) (outputs : ℕ) → IsSmall graph → (r : Result DraftPlan (Failure PlanFault)) → IfOk r (IsLinked graph outputs) → IfFault r (IsLinkFault graph outputs)
+    → (f : PlanFault) → IsLinkFault graph outputs f → Refuses (λ found. found ≡ f) r
+refuses graph outputs small r p q f is = refuses_from r p q (λ made made_is. graphs_link_in_one_way.not_both graph outputs made f small made_is is) (λ found found_is. graphs_link_in_one_way.one_fault graph outputs found f found_is is)

@@ -14,11 +14,11 @@ use Rattle.graph_plan.specs.Graphs.{Graph, labels, label, kind, AreJoined}
 use Rattle.graph_plan.specs.Links.{AreLeft}
 use Rattle.graph_plan.specs.Refusals.{IsOnOutput}
 use Rattle.graph_plan.specs.Joining.{HasPad, Notes}
-use Rattle.graph_plan.proofs.ListLemmas.{get_within}
+use Rattle.av_base.proofs.Lists.{get_within}
 use Rattle.graph_plan.proofs.GraphLemmas.{item_is, neighbour_out}
 
 module _ (graph : Graph) (giver : Place) where
-  -- a pad with a label is taken where an input pad has the label
+  -- a pad with a label is taken if an input pad has the label
   pub label_taken : (ins : LabelTable) → Notes graph In (IsOnOutput graph) ins → (name : List ℕ) → label graph Out giver.filter giver.pad ≡ Some name → HasPad ins name ↔ ((taker : Place) × AreJoined graph giver taker)
   label_taken ins notes name labelled = (
     λ has. (has.0, inl (name, labelled, (notes.pad name has.0 has.1).0)),
@@ -32,11 +32,11 @@ module _ (graph : Graph) (giver : Place) where
     ],
   )
 
-  -- a filter stands behind its filter in its chain
+  -- another filter comes after the pad's filter in its chain
   abbrev pub IsFollowed : Type 0
   IsFollowed = (first second : FilterCall) × (slice_get graph.calls giver.filter ≡ Some first) × (slice_get graph.calls (giver.filter + 1) ≡ Some second) × (first.chain ≡ second.chain)
 
-  -- a pad without a label is taken where a filter follows
+  -- a pad without a label is taken if a filter follows
   pub bare_taken : (gives : Media) → kind graph Out giver.filter giver.pad ≡ Some gives → label graph Out giver.filter giver.pad ≡ None → IsFollowed ↔ ((taker : Place) × AreJoined graph giver taker)
   bare_taken gives is_there bare = (
     λ f. (

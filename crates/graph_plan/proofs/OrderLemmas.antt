@@ -151,7 +151,7 @@ comes_straight R count done [] filter are all low reaches = are.straight filter 
 comes_straight R count done (next ∷ filters) filter are h low reaches =
     comes_straight R count (done ++ next ∷ []) filters filter (done_push R count done next are h.0 h.1 h.2) h.4 low reaches
 
--- ---- where no filter can come
+-- ---- if no filter can come
 
 -- a way back from a filter, over distinct ones
 record IsWay (R : ℕ → ℕ → Type 0) (count start : ℕ) (way : List ℕ) : Type 0 where
@@ -173,7 +173,7 @@ way_more R count start giver way straight is low feeds = record {
   ];
 }
 
--- where each of these takes from another of them, the way goes back so many steps
+-- if each of these takes from another of them, the way back has any number of steps
 long_way : (R : ℕ → ℕ → Type 0) (count : ℕ) (Held : ℕ → Type 0) → AreBelow R count → ((filter : ℕ) → Reaches R filter filter → ⊥)
     → ((taker : ℕ) → Held taker → (giver : ℕ) × R giver taker × Held giver) → (start : ℕ) → start < count → Held start
     → (steps : ℕ) → (end : ℕ) × (way : List ℕ) × IsWay R count end way × Held end × (length way ≡ steps + 1)
@@ -200,7 +200,7 @@ long_way R count Held below straight held start low is (suc steps) =
       (let e = so_far.4 in omega (arith, length_push so_far.1 back.0)),
     )
 
--- where each of these takes from another of them, and there is one, some filter reaches itself
+-- if each of these takes from another of them, and there is one, some filter reaches itself
 pub held_cycle : (R : ℕ → ℕ → Type 0) (count : ℕ) (Held : ℕ → Type 0) → AreBelow R count
     → ((taker : ℕ) → Held taker → (giver : ℕ) × R giver taker × Held giver) → (start : ℕ) → start < count → Held start
     → ((filter : ℕ) → Reaches R filter filter → ⊥) → ⊥

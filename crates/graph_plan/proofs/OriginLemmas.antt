@@ -14,7 +14,7 @@ use Rattle.graph_plan.specs.declared.labels.LabelTable.{LabelTable}
 use Rattle.graph_plan.specs.declared.origins.Origin.{Origin}
 use Rattle.graph_plan.specs.declared.origins.Origin.TheVariants.{Pad, File}
 use Rattle.graph_plan.specs.Joining.{pad_of, Notes, IsUnknown, IsOriginOf, Differ, IsMismatched}
-use Rattle.graph_plan.specs.Least.{Never}
+use Rattle.av_base.specs.First.{Never}
 use Rattle.graph_plan.specs.Refusals.{HasLabelTwice}
 use Rattle.graph_plan.proofs.GraphLemmas.{one_giver, joined_not_named, joined_not_open, named_not_open, one_named}
 use Rattle.graph_plan.specs.Graphs.{Graph, label, kind, SaysKind, SaysFile, NamesFile, IsOpen, AreJoined}
@@ -26,18 +26,18 @@ runs_digits : (text : List ℕ) → AllDigits 10 text → AllByRecursion (λ c. 
 runs_digits [] all = tt
 runs_digits (c ∷ rest) all = (lt-ltb (digit_value c) 10 all.0, runs_digits rest all.1)
 
-kind_stops : (behind : List ℕ) (said : Option Media) → SaysKind behind said → Stops is_digit behind
+kind_stops : (suffix : List ℕ) (said : Option Media) → SaysKind suffix said → Stops is_digit suffix
 kind_stops _ _ plain = tt
 kind_stops _ _ video = refl
 kind_stops _ _ first_video = refl
 kind_stops _ _ audio = refl
 kind_stops _ _ first_audio = refl
 
--- what a label of a file says stands in the digits that it begins with, and in what follows them
-pub says_parts : (name digits behind : List ℕ) → IsRun is_digit name digits behind → (file : ℕ) (said : Option Media) → SaysFile name file said
-    → IsNumber 1 4 digits file × SaysKind behind said
-says_parts name digits behind run file said says =
-    let parts = run_unique is_digit says.digits digits says.behind behind (runs_digits says.digits says.number.digits) run.each (kind_stops says.behind said says.kind_said) run.whole (sym says.name_is ∙ run.text_is) in
+-- a label of a file consists of its digits and of the text after them
+pub says_parts : (name digits suffix : List ℕ) → IsRun is_digit name digits suffix → (file : ℕ) (said : Option Media) → SaysFile name file said
+    → IsNumber 1 4 digits file × SaysKind suffix said
+says_parts name digits suffix run file said says =
+    let parts = run_unique is_digit says.digits digits says.suffix suffix (runs_digits says.digits says.number.digits) run.each (kind_stops says.suffix said says.kind_said) run.whole (sym says.name_is ∙ run.text_is) in
     let P : List ℕ → Type 0 = λ t. IsNumber 1 4 t file in
     let Q : List ℕ → Type 0 = λ t. SaysKind t said in
     (subst P parts.0 says.number, subst Q parts.1 says.kind_said)
@@ -45,7 +45,7 @@ says_parts name digits behind run file said says =
 -- ---- what an input pad's label says
 
 module _ (graph : Graph) (outs : LabelTable) (notes : Notes graph Out (λ name. Unit {0}) outs) (taker : Place) (name : List ℕ) (labelled : label graph In taker.filter taker.pad ≡ Some name) where
-  -- it stands on an output pad
+  -- it is on an output pad
   pub origin_shared : (giver : Place) → pad_of outs name ≡ Some giver → IsOriginOf graph taker (Pad giver)
   origin_shared giver has = inl (name, (notes.pad name giver has).0, labelled)
 

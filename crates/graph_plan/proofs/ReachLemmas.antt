@@ -25,7 +25,7 @@ set_stays marks new filter low is = elim (cases_eq filter new) [
   | inr apart ↦ rw (get_or-set_other marks new filter true false apart) is
 ]
 
--- so many are left to mark
+-- the number of those that are left to mark
 pub unmarked_less : (marks : List Bool) (filter : ℕ) → filter < length marks → get_or marks filter false ≡ false → count_by not (set marks filter true) + 1 ≡ count_by not marks
 unmarked_less marks filter low bare =
     let sums = rw bare at (sum_by-set (λ (b : Bool). cond (not b) 1 0) marks filter true false low) in
@@ -121,7 +121,8 @@ marked_new before marks first stack filters next are low bare = record {
 abbrev pub Leads : ℕ → List Bool → ℕ → Type 0
 Leads filter marks giver = (giver ≡ filter) ⊎ IsMarked marks giver
 
--- what is marked is reached; where the walk has been, all that comes next is marked; and the others are on the stack
+-- What is marked is reached. For each filter that the walk has passed, all next ones are marked. The others are on the
+-- stack.
 pub record Walking (takers : List (Vec ℕ Global)) (filter : ℕ) (marks : List Bool) (stack : List ℕ) : Type 0 where
   pub reached : (taker : ℕ) → IsMarked marks taker → Reaches (Has takers) filter taker
   pub stacked : (giver : ℕ) → Contains stack giver → Leads filter marks giver
@@ -186,7 +187,7 @@ walking_more takers filter giver row old new stack rest next is top at are = rec
     ]
   ]
 
--- where the stack is empty, all that is reached is marked
+-- if the stack is empty, all that is reached is marked
 walked : (takers : List (Vec ℕ Global)) (filter : ℕ) (marks : List Bool) → Walking takers filter marks [] → (taker giver : ℕ) → LeadsTo (Has takers) taker giver → Leads filter marks giver → IsMarked marks taker
 walked takers filter marks is taker _ (Directly giver has) leads = elim (is.passed giver taker leads has) [
   | inl here ↦ absurd (let k : here.0 < 0 = here.1 in omega arith)

@@ -9,7 +9,7 @@ use Rattle.graph_plan.specs.declared.plan.Edge.{Edge}
 use Rattle.graph_plan.specs.declared.order.Neighbours.{Neighbours}
 use Rattle.graph_plan.specs.Orders.{Feeds, AreBelow}
 use Rattle.graph_plan.specs.Arranging.{Joins, IsBelow, Has, AreRows, AreNeighbours}
-use Rattle.graph_plan.proofs.ListLemmas.{pushed_at}
+use Rattle.av_base.proofs.Lists.{pushed_at}
 
 -- ---- links
 

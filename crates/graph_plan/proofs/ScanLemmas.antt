@@ -14,11 +14,12 @@ use Rattle.graph_plan.specs.declared.places.Side.TheVariants.{In, Out}
 use Rattle.graph_plan.specs.declared.origins.Origin.{Origin}
 use Rattle.graph_plan.specs.declared.origins.Origin.TheVariants.{Pad, File, Open}
 use Rattle.graph_plan.specs.declared.origins.Inlet.{Inlet}
-use Rattle.graph_plan.specs.Least.{IsLeast, Never}
+use Rattle.av_base.specs.First.{IsFirst, Never}
+use Rattle.av_base.proofs.Lists.{place_of}
+use Rattle.av_base.proofs.Arithmetic.{first_along}
 use Rattle.graph_plan.specs.Graphs.{Graph, kinds, label, kind, pads_on, SaysFile}
 use Rattle.graph_plan.specs.Refusals.{HasUnknownInput, HasMismatch}
 use Rattle.graph_plan.specs.Joining.{IsUnknown, IsOriginOf, IsInlet, takers, AreInlets, IsMismatched, FitsTogether}
-use Rattle.graph_plan.proofs.ListLemmas.{place_of, least_along}
 use Rattle.graph_plan.proofs.GraphLemmas.{neighbour_in, item_places, places_rise, labelled_is_there, joined_taker_is_there}
 use Rattle.graph_plan.proofs.TableLemmas.{not_lower}
 
@@ -37,12 +38,12 @@ place_at filter pad = record { filter = filter; pad = pad }
 abbrev pub HasSuch : (Place → Type 0) → ℕ → Type 0
 HasSuch P filter = (pad : ℕ) × P (place_at filter pad)
 
--- the first such input pad is one of the least such filter
+-- the first such input pad is one of the lowest such filter
 pub scan_first : (graph : Graph) (P : Place → Type 0) (k : ℕ) (a : Place) → ((b : Place) → P b → Contains (pads_on graph In) b) → slice_get (pads_on graph In) k ≡ Some a
-    → ((j : ℕ) → j < k → (b : Place) → slice_get (pads_on graph In) j ≡ Some b → P b → ⊥) → P a → IsLeast (HasSuch P) a.filter
+    → ((j : ℕ) → j < k → (b : Place) → slice_get (pads_on graph In) j ≡ Some b → P b → ⊥) → P a → IsFirst (HasSuch P) a.filter
 scan_first graph P k a there here none is = record {
   holds = (a.pad, is);
-  least = λ other less such. (
+  none_before = λ other less such. (
       let b = place_at other such.0 in
       let at = place_of (pads_on graph In) b (there b such.1) in
       elim (cases_order at.0 k) [
@@ -110,8 +111,8 @@ unknown_has graph filter is = record { pad = is.0; name = is.1.name; is_label = 
 has_unknown : (graph : Graph) (filter : ℕ) → HasUnknownInput graph filter → HasSuch (IsUnknown graph) filter
 has_unknown graph filter is = (is.pad, record { name = is.name; is_label = is.is_label; on_no_output = is.on_no_output; names_none = is.names_none })
 
-pub least_unknown : (graph : Graph) (filter : ℕ) → IsLeast (HasSuch (IsUnknown graph)) filter → IsLeast (HasUnknownInput graph) filter
-least_unknown graph filter is = least_along (unknown_has graph) (has_unknown graph) is
+pub lowest_unknown : (graph : Graph) (filter : ℕ) → IsFirst (HasSuch (IsUnknown graph)) filter → IsFirst (HasUnknownInput graph) filter
+lowest_unknown graph filter is = first_along (unknown_has graph) (has_unknown graph) is
 
 pub never_unknown : (graph : Graph) → Never (HasSuch (IsUnknown graph)) → Never (HasUnknownInput graph)
 never_unknown graph none filter is = none filter (has_unknown graph filter is)
@@ -144,15 +145,15 @@ module _ (graph : Graph) (fit : FitsTogether graph) where
     ),
   )
 
-  pub least_mismatch : (filter : ℕ) → IsLeast (HasSuch (IsMismatched graph)) filter → IsLeast (HasMismatch graph) filter
-  least_mismatch filter is = least_along mismatch_has has_mismatch is
+  pub lowest_mismatch : (filter : ℕ) → IsFirst (HasSuch (IsMismatched graph)) filter → IsFirst (HasMismatch graph) filter
+  lowest_mismatch filter is = first_along mismatch_has has_mismatch is
 
   pub never_mismatch : Never (HasSuch (IsMismatched graph)) → Never (HasMismatch graph)
   never_mismatch none filter is = none filter (has_mismatch filter is)
 
 -- ---- input pads so far
 
--- so many input pads have their origin
+-- the first input pads have their origin
 pub record InletsSoFar (graph : Graph) (many : ℕ) (inlets : List Inlet) : Type 0 where
   pub are : takers inlets ≡ take many (pads_on graph In)
   pub each : All (IsInlet graph) inlets

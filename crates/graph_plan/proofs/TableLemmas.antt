@@ -1,5 +1,5 @@
 -- Tables of labels, as far as places were seen.
-use Rattle.std.proofs.Common.{◌≡◌, ◌<◌, ◌≤◌, ◌+◌, ◌++◌, ◌⊎◌, ℕ, List, [], ◌∷◌, Option, Some, None, true, false, length, refl, sym, ◌∙◌, ap, subst, inl, inr, arith, bytes_eq}
+use Rattle.std.proofs.Common.{◌≡◌, ◌<◌, ◌≤◌, ◌++◌, ◌⊎◌, ℕ, List, [], ◌∷◌, Option, Some, None, true, false, length, refl, sym, ◌∙◌, ap, subst, inl, inr, arith, bytes_eq}
 use Rattle.std.specs.Prelude.{MatchOption}
 use Rattle.std.specs.List.{slice_get}
 use Rattle.std.specs.Option.{option_or, is_some}
@@ -12,12 +12,14 @@ use Rattle.graph_plan.specs.declared.places.Side.{Side}
 use Rattle.graph_plan.specs.declared.places.Side.TheVariants.{In, Out}
 use Rattle.graph_plan.specs.declared.labels.LabelTable.{LabelTable}
 use Rattle.graph_plan.specs.Graphs.{Graph, places, IsBefore, labels, label}
-use Rattle.graph_plan.specs.Joining.{pad_of, HasPad, StandsTwice, IsFirstTwice, HasSeen, Notes, IsLesser}
+use Rattle.graph_plan.specs.Joining.{pad_of, HasPad, IsRepeated, IsFirstTwice, HasSeen, Notes, IsLesser}
 use Rattle.graph_text.specs.declared.graph.FilterCall.{FilterCall}
-use Rattle.graph_plan.specs.Least.{IsLeast, Never}
+use Rattle.av_base.specs.First.{IsFirst, Never}
+use Rattle.av_base.proofs.Lists.{place_of, pushed_at, append_get_left, pushed_last}
+use Rattle.av_base.proofs.Arithmetic.{first_along}
 use Rattle.graph_plan.specs.Refusals.{IsTwice, IsOnOutput, HasLabelTwice}
 use Rattle.graph_plan.proofs.GraphLemmas.{item_places, places_rise, not_before_itself}
-use Rattle.graph_plan.proofs.ListLemmas.{place_of, cases_Option, least_along, pushed_at, append_get_left, append_get_right}
+use Rattle.graph_plan.proofs.ListLemmas.{cases_Option}
 
 -- ---- whether there is one
 
@@ -44,14 +46,10 @@ pub not_lower : (a b : Place) → IsBefore a b → b.filter < a.filter → ⊥
 not_lower a b before low = elim before [ inl less ↦ omega arith | inr same ↦ (let e = same.0 in omega arith) ]
 
 module _ (graph : Graph) (side : Side) (Such : List ℕ → Type 0) where
-  -- ---- places whose label stands twice
+  -- ---- places whose label occurs twice
 
-  -- the last of places that are one more
-  last_at : (seen : List Place) (place : Place) → slice_get (seen ++ place ∷ []) (length seen) ≡ Some place
-  last_at seen place = let end : length seen + 0 ≡ length seen = omega arith in rw end at (append_get_right seen (place ∷ []) 0)
-
-  stands_up : (seen : List Place) (last : Place) (at : ℕ) (place : Place) → StandsTwice graph side Such seen at place → StandsTwice graph side Such (seen ++ last ∷ []) at place
-  stands_up seen last at place is = record {
+  repeated_more : (seen : List Place) (last : Place) (at : ℕ) (place : Place) → IsRepeated graph side Such seen at place → IsRepeated graph side Such (seen ++ last ∷ []) at place
+  repeated_more seen last at place is = record {
     here = append_get_left seen (last ∷ []) at place is.here;
     name = is.name;
     such = is.such;
@@ -63,9 +61,9 @@ module _ (graph : Graph) (side : Side) (Such : List ℕ → Type 0) where
     lower = is.lower;
   }
 
-  stands_down : (seen : List Place) (last : Place) (at : ℕ) (place : Place) → StandsTwice graph side Such (seen ++ last ∷ []) at place
-      → StandsTwice graph side Such seen at place ⊎ ((at ≡ length seen) × (place ≡ last))
-  stands_down seen last at place is = elim (pushed_at seen last at place is.here) [
+  repeated_back : (seen : List Place) (last : Place) (at : ℕ) (place : Place) → IsRepeated graph side Such (seen ++ last ∷ []) at place
+      → IsRepeated graph side Such seen at place ⊎ ((at ≡ length seen) × (place ≡ last))
+  repeated_back seen last at place is = elim (pushed_at seen last at place is.here) [
     | inl here ↦ inl (record {
       here = here;
       name = is.name;
@@ -83,42 +81,42 @@ module _ (graph : Graph) (side : Side) (Such : List ℕ → Type 0) where
     | inr end ↦ inr end
   ]
 
-  -- the first that stands twice stays the first
+  -- the first that occurs twice stays the first
   twice_kept : (seen : List Place) (last : Place) (twice : Option ℕ) → IsFirstTwice graph side Such seen twice
-      → (twice ≡ None → StandsTwice graph side Such (seen ++ last ∷ []) (length seen) last → ⊥) → IsFirstTwice graph side Such (seen ++ last ∷ []) twice
-  twice_kept seen last None is not = λ at place stands. elim (stands_down seen last at place stands) [
+      → (twice ≡ None → IsRepeated graph side Such (seen ++ last ∷ []) (length seen) last → ⊥) → IsFirstTwice graph side Such (seen ++ last ∷ []) twice
+  twice_kept seen last None is not = λ at place repeated. elim (repeated_back seen last at place repeated) [
     | inl old ↦ is at place old
     | inr end ↦ (
-        let P : ℕ → Type 0 = λ k. StandsTwice graph side Such (seen ++ last ∷ []) k place in
-        let Q : Place → Type 0 = λ p. StandsTwice graph side Such (seen ++ last ∷ []) (length seen) p in
-        not refl (subst Q end.1 (subst P end.0 stands))
+        let P : ℕ → Type 0 = λ k. IsRepeated graph side Such (seen ++ last ∷ []) k place in
+        let Q : Place → Type 0 = λ p. IsRepeated graph side Such (seen ++ last ∷ []) (length seen) p in
+        not refl (subst Q end.1 (subst P end.0 repeated))
         )
   ]
   twice_kept seen last (Some filter) is not = (
     is.0,
     is.1,
-    stands_up seen last is.0 is.1 is.2,
+    repeated_more seen last is.0 is.1 is.2,
     is.3,
-    λ other another lower stands. elim (stands_down seen last other another stands) [
+    λ other another lower repeated. elim (repeated_back seen last other another repeated) [
       | inl old ↦ is.4 other another lower old
       | inr end ↦ (let low = slice_get_within seen is.0 is.1 is.2.here in let at_end = end.0 in omega arith)
     ],
   )
 
-  -- the last stands twice
-  twice_more : (seen : List Place) (last : Place) (twice : Option ℕ) → IsFirstTwice graph side Such seen twice → StandsTwice graph side Such (seen ++ last ∷ []) (length seen) last
+  -- the last occurs twice
+  twice_more : (seen : List Place) (last : Place) (twice : Option ℕ) → IsFirstTwice graph side Such seen twice → IsRepeated graph side Such (seen ++ last ∷ []) (length seen) last
       → IsFirstTwice graph side Such (seen ++ last ∷ []) (option_or twice (Some last.filter))
-  twice_more seen last None is stands = (
+  twice_more seen last None is repeated = (
     length seen,
     last,
-    stands,
+    repeated,
     refl,
-    λ other another lower stands_too. elim (stands_down seen last other another stands_too) [
+    λ other another lower repeated_too. elim (repeated_back seen last other another repeated_too) [
       | inl old ↦ is other another old
       | inr end ↦ (let at_end = end.0 in omega arith)
     ],
   )
-  twice_more seen last (Some filter) is stands = twice_kept seen last (Some filter) is (λ none. absurd (cc))
+  twice_more seen last (Some filter) is repeated = twice_kept seen last (Some filter) is (λ none. absurd (cc))
 
   -- ---- one more place
 
@@ -131,7 +129,7 @@ module _ (graph : Graph) (side : Side) (Such : List ℕ → Type 0) where
       | inl old ↦ is.all at other name old labelled such
       | inr end ↦ absurd (let P : Place → Type 0 = λ p. label graph side p.filter p.pad ≡ Some name in none name (subst P end.1 labelled) such)
     ];
-    twice = twice_kept seen place table.twice is.twice (λ not stands. none stands.name stands.is_label stands.such);
+    twice = twice_kept seen place table.twice is.twice (λ not repeated. none repeated.name repeated.is_label repeated.such);
   }
 
   -- its label was noted already
@@ -149,7 +147,7 @@ module _ (graph : Graph) (side : Side) (Such : List ℕ → Type 0) where
     ]);
     twice = rw twice (twice_more seen place table.twice is.twice (
         let old = is.pad name has.0 has.1 in record {
-          here = last_at seen place;
+          here = pushed_last seen place;
           name = name;
           such = such;
           is_label = labelled;
@@ -176,7 +174,7 @@ module _ (graph : Graph) (side : Side) (Such : List ℕ → Type 0) where
           subst Q (same_Some name called (sym labelled ∙ subst P end.1 labelled_so)) (place, pads name ∙ at_name name refl)
           )
     ];
-    twice = rw twice (twice_kept seen place table.twice is.twice (λ not stands. not_twice stands));
+    twice = rw twice (twice_kept seen place table.twice is.twice (λ not repeated. not_twice repeated));
   } where
     at_name : (other : List ℕ) → name ≡ other → update bytes_eq (pad_of table) name (Some place) other ≡ Some place
     at_name other same = let equal = (bytes_eq-Decides name other).1 same in rw equal refl
@@ -201,7 +199,7 @@ module _ (graph : Graph) (side : Side) (Such : List ℕ → Type 0) where
           let P : Place → Type 0 = λ p. slice_get (seen ++ place ∷ []) (length seen) ≡ Some p in
           let Q : Place → Type 0 = λ p. label graph side p.filter p.pad ≡ Some other in
           let R : List ℕ → Type 0 = λ n. label graph side place.filter place.pad ≡ Some n in
-          ((length seen, subst P here (last_at seen place)), subst Q here (subst R same labelled), subst Such same such)
+          ((length seen, subst P here (pushed_last seen place)), subst Q here (subst R same labelled), subst Such same such)
           )
       | inr apart ↦ (
           let old = is.pad other at_place (sym (pads other ∙ at_other other apart) ∙ has) in
@@ -215,13 +213,13 @@ module _ (graph : Graph) (side : Side) (Such : List ℕ → Type 0) where
       | inr apart ↦ (has.0, pads other ∙ (at_other other apart ∙ has.1))
     ]
 
-    not_twice : StandsTwice graph side Such (seen ++ place ∷ []) (length seen) place → ⊥
-    not_twice stands =
-        let same : name ≡ stands.name = same_Some name stands.name (sym labelled ∙ stands.is_label) in
+    not_twice : IsRepeated graph side Such (seen ++ place ∷ []) (length seen) place → ⊥
+    not_twice repeated =
+        let same : name ≡ repeated.name = same_Some name repeated.name (sym labelled ∙ repeated.is_label) in
         let P : List ℕ → Type 0 = λ n. HasPad table n in
-        elim (pushed_at seen place stands.before stands.earlier stands.there) [
-          | inl old ↦ none (subst P (sym same) (is.all stands.before stands.earlier stands.name old stands.is_label_too stands.such))
-          | inr end ↦ (let lower = stands.lower in let at_end = end.0 in omega arith)
+        elim (pushed_at seen place repeated.before repeated.earlier repeated.there) [
+          | inl old ↦ none (subst P (sym same) (is.all repeated.before repeated.earlier repeated.name old repeated.is_label_too repeated.such))
+          | inr end ↦ (let lower = repeated.lower in let at_end = end.0 in omega arith)
         ]
 
   -- ---- all places
@@ -230,7 +228,7 @@ module _ (graph : Graph) (side : Side) (Such : List ℕ → Type 0) where
   seen_none table bare none = record {
     pad = λ name place has. absurd (let not = bare name in cc);
     all = λ at place name here. absurd (cc);
-    twice = rw none (λ at place stands. let here = stands.here in cc);
+    twice = rw none (λ at place repeated. let here = repeated.here in cc);
   }
 
   -- what the table has, once the places of all labels were seen
@@ -258,8 +256,8 @@ module _ (graph : Graph) (side : Side) (Such : List ℕ → Type 0) where
       ]
     ]
 
-    stands : (filter : ℕ) → IsTwice graph side Such filter → (at : ℕ) × (place : Place) × StandsTwice graph side Such seen at place × (place.filter ≡ filter)
-    stands filter twice =
+    repeated : (filter : ℕ) → IsTwice graph side Such filter → (at : ℕ) × (place : Place) × IsRepeated graph side Such seen at place × (place.filter ≡ filter)
+    repeated filter twice =
         let here = seen_at filter twice.pad twice.name twice.has in
         let there = seen_at twice.earlier.filter twice.earlier.pad twice.name twice.has_too in (
           here.0,
@@ -278,8 +276,8 @@ module _ (graph : Graph) (side : Side) (Such : List ℕ → Type 0) where
           refl,
         )
 
-    first : (twice : Option ℕ) → IsFirstTwice graph side Such seen twice → MatchOption twice (Never (IsTwice graph side Such)) (IsLeast (IsTwice graph side Such))
-    first None none = λ filter twice. let so = stands filter twice in none so.0 so.1 so.2
+    first : (twice : Option ℕ) → IsFirstTwice graph side Such seen twice → MatchOption twice (Never (IsTwice graph side Such)) (IsFirst (IsTwice graph side Such))
+    first None none = λ filter twice. let so = repeated filter twice in none so.0 so.1 so.2
     first (Some filter) found = record {
       holds = (
           let s = found.2 in
@@ -294,8 +292,8 @@ module _ (graph : Graph) (side : Side) (Such : List ℕ → Type 0) where
             before = places_rise _ 0 graph.calls s.before found.0 s.earlier found.1 (rw all_seen at s.there) (rw all_seen at s.here) s.lower;
           })
           );
-      least = λ other lower twice. (
-          let so = stands other twice in
+      none_before = λ other lower twice. (
+          let so = repeated other twice in
           elim (cases_order so.0 found.0) [
             | inl same ↦ (
                 let equal : so.1 ≡ found.1 = same_Some so.1 found.1 (sym so.2.here ∙ (ap (slice_get seen) same ∙ found.2.here)) in
@@ -345,20 +343,20 @@ module _ (graph : Graph) (outs ins : LabelTable) (notes_out : Notes graph Out (�
   twice_in : (filter : ℕ) → IsTwice graph In (HasPad outs) filter → HasLabelTwice graph filter
   twice_in filter is = inr (twice_along graph In (HasPad outs) (IsOnOutput graph) has_on_output filter is)
 
-  -- what stands twice on a side comes no earlier than the first that was noted
-  not_lower_than : (P : ℕ → Type 0) (twice : Option ℕ) → MatchOption twice (Never P) (IsLeast P) → (k : ℕ) → ((m : ℕ) → twice ≡ Some m → k ≤ m) → (other : ℕ) → other < k → P other → ⊥
+  -- what occurs twice on a side comes no earlier than the first that was noted
+  not_lower_than : (P : ℕ → Type 0) (twice : Option ℕ) → MatchOption twice (Never P) (IsFirst P) → (k : ℕ) → ((m : ℕ) → twice ≡ Some m → k ≤ m) → (other : ℕ) → other < k → P other → ⊥
   not_lower_than P twice is k low other less holds = elim (cases_Option twice) [
-    | inl some ↦ (let first = match_some twice (Never P) (IsLeast P) is some.0 some.1 in let bound = low some.0 some.1 in first.least other (omega arith) holds)
-    | inr none ↦ match_none twice (Never P) (IsLeast P) is none other holds
+    | inl some ↦ (let first = match_some twice (Never P) (IsFirst P) is some.0 some.1 in let bound = low some.0 some.1 in first.none_before other (omega arith) holds)
+    | inr none ↦ match_none twice (Never P) (IsFirst P) is none other holds
   ]
 
-  pub least_twice : (k : ℕ) → IsLesser outs.twice ins.twice (Some k) → IsLeast (HasLabelTwice graph) k
-  least_twice k is = record {
+  pub lowest_twice : (k : ℕ) → IsLesser outs.twice ins.twice (Some k) → IsFirst (HasLabelTwice graph) k
+  lowest_twice k is = record {
     holds = elim is.0 [
-      | inl out ↦ inl (match_some outs.twice _ (IsLeast (IsTwice graph Out (λ name. Unit {0}))) notes_out.twice k out).holds
-      | inr in_ ↦ twice_in k (match_some ins.twice _ (IsLeast (IsTwice graph In (HasPad outs))) notes_in.twice k in_).holds
+      | inl out ↦ inl (match_some outs.twice _ (IsFirst (IsTwice graph Out (λ name. Unit {0}))) notes_out.twice k out).holds
+      | inr in_ ↦ twice_in k (match_some ins.twice _ (IsFirst (IsTwice graph In (HasPad outs))) notes_in.twice k in_).holds
     ];
-    least = λ other less twice. elim twice [
+    none_before = λ other less twice. elim twice [
       | inl out ↦ not_lower_than (IsTwice graph Out (λ name. Unit {0})) outs.twice notes_out.twice k is.1 other less out
       | inr in_ ↦ not_lower_than (IsTwice graph In (HasPad outs)) ins.twice notes_in.twice k is.2 other less (twice_along graph In (IsOnOutput graph) (HasPad outs) on_output_has other in_)
     ];
@@ -366,20 +364,20 @@ module _ (graph : Graph) (outs ins : LabelTable) (notes_out : Notes graph Out (�
 
   pub never_twice : outs.twice ≡ None → ins.twice ≡ None → Never (HasLabelTwice graph)
   never_twice no_out no_in filter twice = elim twice [
-    | inl out ↦ match_none outs.twice (Never (IsTwice graph Out (λ name. Unit {0}))) (IsLeast (IsTwice graph Out (λ name. Unit {0}))) notes_out.twice no_out filter out
-    | inr in_ ↦ match_none ins.twice (Never (IsTwice graph In (HasPad outs))) (IsLeast (IsTwice graph In (HasPad outs))) notes_in.twice no_in filter
+    | inl out ↦ match_none outs.twice (Never (IsTwice graph Out (λ name. Unit {0}))) (IsFirst (IsTwice graph Out (λ name. Unit {0}))) notes_out.twice no_out filter out
+    | inr in_ ↦ match_none ins.twice (Never (IsTwice graph In (HasPad outs))) (IsFirst (IsTwice graph In (HasPad outs))) notes_in.twice no_in filter
         (twice_along graph In (IsOnOutput graph) (HasPad outs) on_output_has filter in_)
   ]
 
-  -- the table of inputs has their labels that stand on output pads
+  -- the table of inputs has their labels that are on output pads
   pub notes_on_output : Notes graph In (IsOnOutput graph) ins
   notes_on_output = record {
     pad = λ name place has. (let is = notes_in.pad name place has in (is.0, has_on_output name is.1));
     all = λ filter pad name labelled on. notes_in.all filter pad name labelled (on_output_has name on);
     twice = along ins.twice notes_in.twice;
   } where
-    along : (twice : Option ℕ) → MatchOption twice (Never (IsTwice graph In (HasPad outs))) (IsLeast (IsTwice graph In (HasPad outs)))
-        → MatchOption twice (Never (IsTwice graph In (IsOnOutput graph))) (IsLeast (IsTwice graph In (IsOnOutput graph)))
+    along : (twice : Option ℕ) → MatchOption twice (Never (IsTwice graph In (HasPad outs))) (IsFirst (IsTwice graph In (HasPad outs)))
+        → MatchOption twice (Never (IsTwice graph In (IsOnOutput graph))) (IsFirst (IsTwice graph In (IsOnOutput graph)))
     along None never = λ filter is. never filter (twice_along graph In (IsOnOutput graph) (HasPad outs) on_output_has filter is)
-    along (Some k) least =
-        least_along (λ f is. twice_along graph In (HasPad outs) (IsOnOutput graph) has_on_output f is) (λ f is. twice_along graph In (IsOnOutput graph) (HasPad outs) on_output_has f is) least
+    along (Some k) none_before =
+        first_along (λ f is. twice_along graph In (HasPad outs) (IsOnOutput graph) has_on_output f is) (λ f is. twice_along graph In (IsOnOutput graph) (HasPad outs) on_output_has f is) none_before

@@ -15,12 +15,13 @@ use Rattle.graph_plan.specs.declared.places.Side.TheVariants.{In}
 use Rattle.graph_plan.specs.declared.origins.Origin.{Origin}
 use Rattle.graph_plan.specs.declared.origins.Origin.TheVariants.{Pad, File, Open}
 use Rattle.graph_plan.specs.declared.origins.Inlet.{Inlet}
-use Rattle.graph_plan.specs.Least.{IsLeast}
+use Rattle.av_base.specs.First.{IsFirst}
+use Rattle.av_base.proofs.Lists.{contained}
+use Rattle.av_base.proofs.Arithmetic.{first_along}
 use Rattle.graph_plan.specs.Graphs.{Graph, kinds, kind, pads_on, NamesFile, IsNamed}
 use Rattle.graph_plan.specs.Links.{IsTaken, IsLeft, IsOrigin, link_to, AreLinks}
 use Rattle.graph_plan.specs.Refusals.{FindsNone}
 use Rattle.graph_plan.specs.Joining.{IsOriginOf, takers, AreInlets, IsNamedBy, AreTaken, FitsTogether, WhenMarked, FindsNoFile}
-use Rattle.graph_plan.proofs.ListLemmas.{contained, least_along}
 use Rattle.graph_plan.proofs.GraphLemmas.{places_item, labelled_is_there, joined_not_named, named_not_open, one_named}
 use Rattle.graph_plan.proofs.ScanLemmas.{taker_at}
 use Rattle.graph_plan.proofs.JoinLemmas.{inlet_of, inlet_is}
@@ -88,7 +89,7 @@ module _ (graph : Graph) (fit : FitsTogether graph) (inlets : List Inlet) (are :
       let P : Origin → Type 0 = λ o. IsOriginOf graph by.0.taker o in
       (by.0.taker, by.2.0, subst P by.2.1 (inlet_is graph fit inlets are by.0 by.1))
 
-  -- where a label names a file, that is the input pad's origin
+  -- if a label names a file, that is the input pad's origin
   file_origin : (taker : Place) (file : ℕ) (said : Option Media) (origin : Origin) → IsOriginOf graph taker origin → NamesFile graph taker file said → (other : Option Media) × (origin ≡ File file other)
   file_origin taker file said (Pad giver) is names = absurd (joined_not_named graph giver taker file said is names)
   file_origin taker file said (File other told) is names =
@@ -175,8 +176,8 @@ module _ (graph : Graph) where
     ],
   )
 
-  pub least_left : (before : List Edge) (taken : List Bool) (wanted : Media) → AreTaken graph before taken → (file : ℕ) → IsLeast (Unmarked taken wanted) file → IsLeast (IsLeft graph before wanted) file
-  least_left before taken wanted is file least = least_along (unmarked_left before taken wanted is) (left_unmarked before taken wanted is) least
+  pub lowest_left : (before : List Edge) (taken : List Bool) (wanted : Media) → AreTaken graph before taken → (file : ℕ) → IsFirst (Unmarked taken wanted) file → IsFirst (IsLeft graph before wanted) file
+  lowest_left before taken wanted is file none_before = first_along (unmarked_left before taken wanted is) (left_unmarked before taken wanted is) none_before
 
 -- ---- marks within the files
 
@@ -198,7 +199,7 @@ input_within graph before taker origin (Some input) is begins = elim is [
 
 -- ---- links so far
 
--- whatever stands behind so many links completes them, and the files that they take are marked
+-- whatever comes after the first links completes them, and the files that they take are marked
 pub record TakenSoFar (graph : Graph) (inlets : List Inlet) (links : List Edge) (marks : List Bool) : Type 0 where
   pub comes : (rest : List Place) (more : List Edge) → AreLinks graph links rest more → AreLinks graph [] (takers inlets ++ rest) (links ++ more)
   pub fails : (rest : List Place) (filter pad : ℕ) → FindsNone graph links rest filter pad → FindsNone graph [] (takers inlets ++ rest) filter pad
@@ -237,13 +238,13 @@ pub fails_at : (graph : Graph) (inlets : List Inlet) (index : ℕ) (d : Inlet) (
 fails_at graph inlets index d links marks are within is none =
     let inlet = get_or inlets index d in
     let taker = inlet.taker in
-    let behind = drop (index + 1) inlets in
-    let whole : take index inlets ++ inlet ∷ behind ≡ inlets =
-    sym (append_assoc (take index inlets) (inlet ∷ []) behind) ∙ (ap (λ (xs : List Inlet). xs ++ behind) (sym (take_more inlets index d within)) ∙ take-append-drop (index + 1) inlets) in
-    let places : takers (take index inlets) ++ taker ∷ takers behind ≡ pads_on graph In =
-    sym (map-append (λ (i : Inlet). i.taker) (take index inlets) (inlet ∷ behind)) ∙ (ap takers whole ∙ are.are) in
+    let rest = drop (index + 1) inlets in
+    let whole : take index inlets ++ inlet ∷ rest ≡ inlets =
+    sym (append_assoc (take index inlets) (inlet ∷ []) rest) ∙ (ap (λ (xs : List Inlet). xs ++ rest) (sym (take_more inlets index d within)) ∙ take-append-drop (index + 1) inlets) in
+    let places : takers (take index inlets) ++ taker ∷ takers rest ≡ pads_on graph In =
+    sym (map-append (λ (i : Inlet). i.taker) (take index inlets) (inlet ∷ rest)) ∙ (ap takers whole ∙ are.are) in
     let P : List Place → Type 0 = λ ps. FindsNone graph [] ps taker.filter taker.pad in
-    subst P places (is.fails (taker ∷ takers behind) taker.filter taker.pad (inl (refl, refl, none.0, none.1)))
+    subst P places (is.fails (taker ∷ takers rest) taker.filter taker.pad (inl (refl, refl, none.0, none.1)))
 
 -- once all input pads have their links
 pub links_all : (graph : Graph) (inlets : List Inlet) (index : ℕ) (links : List Edge) (marks : List Bool) → AreInlets graph inlets → length inlets ≤ index

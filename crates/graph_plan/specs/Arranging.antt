@@ -1,4 +1,4 @@
--- What an arrangement of filters says.
+-- What the steps of arranging filters ensure.
 use Rattle.std.specs.Prelude.{◌≡◌, ◌<◌, ◌⊎◌, ◌↔◌, ℕ, List, Bool, Some, true, false, length, slice_index, slice_index_or, Vec}
 use Rattle.std.specs.declared.alloc.Global.{Global}
 use Rattle.std.specs.List.{slice_get, Contains}
@@ -10,18 +10,18 @@ use Rattle.graph_plan.specs.declared.order.Arranged.TheVariants.{Order, Cycle}
 use Rattle.graph_plan.specs.declared.order.Neighbours.{Neighbours}
 use Rattle.graph_plan.specs.declared.order.Progress.{Progress}
 use Rattle.graph_plan.specs.Orders.{IsOrder, Reaches, Feeds}
-use Rattle.graph_plan.specs.Least.{IsLeast}
+use Rattle.av_base.specs.First.{IsFirst}
 
--- it is the order, or the least filter that reaches itself
+-- it is the order, or the lowest filter that reaches itself
 abbrev pub IsArranged : List Edge → ℕ → Arranged → Type 0
 IsArranged links count (Order order) = IsOrder (Feeds links) count order.items
-IsArranged links count (Cycle filter) = IsLeast (λ f. Reaches (Feeds links) f f) filter
+IsArranged links count (Cycle filter) = IsFirst (λ f. Reaches (Feeds links) f f) filter
 
 -- a link from the one filter to the other
 abbrev pub Joins : Edge → ℕ → ℕ → Type 0
 Joins link giver taker = (out_pad in_pad : ℕ) × (link ≡ record { from = from.Filter giver out_pad; to = to.Filter taker in_pad })
 
--- it joins filters below a count alone, if any
+-- if it joins filters, both are below the count
 abbrev pub IsBelow : Edge → ℕ → Type 0
 IsBelow link count = (giver taker : ℕ) → Joins link giver taker → (giver < count) × (taker < count)
 
@@ -31,12 +31,12 @@ IsBelow link count = (giver taker : ℕ) → Joins link giver taker → (giver <
 abbrev pub Has : List (Vec ℕ Global) → ℕ → ℕ → Type 0
 Has rows number item = (row : Vec ℕ Global) × (slice_get rows number ≡ Some row) × Contains row.items item
 
--- so many rows of numbers below a bound
+-- as many rows as given, of numbers below a bound
 pub record AreRows (count bound : ℕ) (rows : List (Vec ℕ Global)) : Type 0 where
   pub each : length rows ≡ count
   pub below : (number item : ℕ) → Has rows number item → item < bound
 
--- the rows of so many filters say which feed each, and which each feeds
+-- the rows of filters below a count: which filters feed each, and which each feeds
 pub record AreNeighbours (feeds : ℕ → ℕ → Type 0) (count : ℕ) (neighbours : Neighbours) : Type 0 where
   pub givers_each : length neighbours.givers.items ≡ count
   pub takers_each : length neighbours.takers.items ≡ count
@@ -59,7 +59,7 @@ pub record IsAlong (givers : List (Vec ℕ Global)) (progress : Progress) : Type
   pub passed : (taker : ℕ) (row : Vec ℕ Global) (k : ℕ) → slice_get givers taker ≡ Some row → k < slice_index progress.next.items taker → k < length row.items
       → IsMarked progress.done.items (slice_index row.items k)
 
--- these are added to the ready filters, where all that they take from is done
+-- these are added to the ready filters, if all that they take from is done
 pub record AreAdded (givers : List (Vec ℕ Global)) (filters : ℕ → Type 0) (old new : Progress) : Type 0 where
   pub along : IsAlong givers new
   pub same : new.done.items ≡ old.done.items

@@ -1,7 +1,7 @@
 -- Which output file takes which open output pad.
-use Rattle.std.specs.Prelude.{◌≡◌, ◌<◌, ◌+◌, ◌++◌, ◌⊎◌, ℕ, List, [], ◌∷◌, Option, Some, None, Result, Ok, Err, length}
+use Rattle.std.specs.Prelude.{◌≡◌, ◌<◌, ◌+◌, ◌++◌, ◌⊎◌, ℕ, List, [], ◌∷◌, Option, Some, None, length}
 use Rattle.std.specs.List.{slice_get}
-use Rattle.graph_plan.specs.Least.{IsLeast, Never}
+use Rattle.av_base.specs.First.{IsFirst, Never}
 use Rattle.av_base.specs.declared.formats.Media.{Media}
 use Rattle.av_base.specs.declared.formats.Media.TheVariants as media
 use Rattle.graph_plan.specs.declared.plan.Edge.{Edge}
@@ -15,10 +15,8 @@ use Rattle.graph_plan.specs.declared.plan.DraftPlan.{DraftPlan}
 use Rattle.graph_plan.specs.declared.plan.Plan.{Plan}
 use Rattle.graph_plan.specs.declared.plan.PlanFault.{PlanFault}
 use Rattle.graph_plan.specs.declared.plan.PlanFault.TheVariants.{NoSuchOutput, Unmapped, WrongKind}
-use Rattle.graph_plan.specs.declared.plan.PlanError.{PlanError}
-use Rattle.graph_plan.specs.declared.plan.PlanError.TheVariants.{Fault, NoMemory}
 
--- what a pad or a file is called: its label, or without one its number among those without one
+-- what a pad or a file is called: its label, or if it has none its number among those without one
 pub data Name : Type 0 where
   Label : List ℕ → Name
   Number : ℕ → Name
@@ -28,14 +26,14 @@ name_of (Some label) number = Label label
 name_of None number = Number number
 
 -- the number of the next one without a label
-abbrev pub number_behind : Option (List ℕ) → ℕ → ℕ
-number_behind (Some label) number = number
-number_behind None number = number + 1
+abbrev pub number_after : Option (List ℕ) → ℕ → ℕ
+number_after (Some label) number = number
+number_after None number = number + 1
 
--- what these are called, where those without a label are numbered from a number on
+-- what these are called. Those without a label are numbered from a number on
 abbrev pub names : {X : Type 0} → (X → Option (List ℕ)) → ℕ → List X → List Name
 names label number [] = []
-names label number (x ∷ xs) = name_of (label x) number ∷ names label (number_behind (label x) number) xs
+names label number (x ∷ xs) = name_of (label x) number ∷ names label (number_after (label x) number) xs
 
 abbrev pub pad_names : List OpenOut → List Name
 pad_names opens = names (λ (p : OpenOut). p.label) 0 opens
@@ -45,7 +43,7 @@ file_names files = names (λ (f : OutputFile). f.label) 0 files
 
 -- the first open pad that is called so
 abbrev pub IsPadOf : List OpenOut → Name → ℕ → Type 0
-IsPadOf opens name = IsLeast (λ o. slice_get (pad_names opens) o ≡ Some name)
+IsPadOf opens name = IsFirst (λ o. slice_get (pad_names opens) o ≡ Some name)
 
 -- a file takes the open pad that is called as it is: the one with its label; those without one in order
 pub record Takes (opens : List OpenOut) (files : List OutputFile) (k o : ℕ) : Type 0 where
@@ -77,13 +75,14 @@ pub record TakesWrong (opens : List OpenOut) (files : List OutputFile) (k : ℕ)
   pub is_pad : slice_get opens place ≡ Some pad
   pub cannot : CannotTake file.ending pad.media
 
--- the first fault: of the files that find none, then of the pads that are left, then of the kinds, the least
+-- the first fault: the lowest file that finds no pad, else the first pad that is left, else the lowest file that takes a
+-- pad of the wrong kind
 pub data IsBindFault (opens : List OpenOut) (files : List OutputFile) : PlanFault → Type 0 where
-  Misses : (output : ℕ) → IsLeast (FindsNone opens files) output → IsBindFault opens files (NoSuchOutput output)
+  Misses : (output : ℕ) → IsFirst (FindsNone opens files) output → IsBindFault opens files (NoSuchOutput output)
   Leaves : (filter pad : ℕ) → Never (FindsNone opens files)
-      → ((o : ℕ) × IsLeast (IsUnmapped opens files) o × ((p : OpenOut) × (slice_get opens o ≡ Some p) × (p.filter ≡ filter) × (p.pad ≡ pad)))
+      → ((o : ℕ) × IsFirst (IsUnmapped opens files) o × ((p : OpenOut) × (slice_get opens o ≡ Some p) × (p.filter ≡ filter) × (p.pad ≡ pad)))
       → IsBindFault opens files (Unmapped filter pad)
-  Mixes : (output : ℕ) → Never (FindsNone opens files) → Never (IsUnmapped opens files) → IsLeast (TakesWrong opens files) output
+  Mixes : (output : ℕ) → Never (FindsNone opens files) → Never (IsUnmapped opens files) → IsFirst (TakesWrong opens files) output
       → IsBindFault opens files (WrongKind output)
 
 -- the link from a pad to an output
@@ -104,26 +103,6 @@ pub record IsBound (draft : DraftPlan) (files : List OutputFile) (plan : Plan) :
   pub are_outputs : AreOutputs draft.opens files outputs
   pub links : plan.links ≡ draft.links ++ outputs
   pub order : plan.order ≡ draft.order
-
--- ---- what a call answers
-
--- a fault that was answered
-abbrev pub IfFault : {X : Type 0} → Result X PlanError → (PlanFault → Type 0) → Type 0
-IfFault (Ok x) P = Unit {0}
-IfFault (Err (Fault f)) P = P f
-IfFault (Err NoMemory) P = Unit {0}
-
--- this value, or want of memory
-abbrev pub Gives : {X : Type 0} → X → Result X PlanError → Type 0
-Gives x (Ok y) = y ≡ x
-Gives x (Err (Fault f)) = ⊥
-Gives x (Err NoMemory) = Unit {0}
-
--- this fault, or want of memory
-abbrev pub Refuses : {X : Type 0} → PlanFault → Result X PlanError → Type 0
-Refuses f (Ok x) = ⊥
-Refuses f (Err (Fault g)) = g ≡ f
-Refuses f (Err NoMemory) = Unit {0}
 
 -- a draft has one bound plan or one fault, and never both
 pub record OutputsBindInOneWay : Type 0 where

@@ -28,7 +28,7 @@ item_of list (Some x) number = slice_get (list x) number
 abbrev pub item : {X Y : Type 0} → (X → List Y) → List X → ℕ → ℕ → Option Y
 item list xs filter number = item_of list (slice_get xs filter) number
 
--- so many places of a filter, from a number on
+-- places of a filter, from a number on, as many as given
 abbrev pub places_of : ℕ → ℕ → ℕ → List Place
 places_of filter pad zero = []
 places_of filter pad (suc count) = (record { filter = filter; pad = pad }) ∷ places_of filter (pad + 1) count
@@ -38,13 +38,13 @@ abbrev pub places : {X : Type 0} → (X → ℕ) → ℕ → List X → List Pla
 places count filter [] = []
 places count filter (x ∷ xs) = places_of filter 0 (count x) ++ places count (filter + 1) xs
 
--- the one place stands before the other
+-- the one place comes before the other
 abbrev pub IsBefore : Place → Place → Type 0
 IsBefore a b = (a.filter < b.filter) ⊎ ((a.filter ≡ b.filter) × (a.pad < b.pad))
 
 -- ---- labels and pads
 
--- the labels of a call: those before the filter's name, or those behind it
+-- the labels of a call: those before the filter's name, or those after it
 abbrev pub labels : Side → FilterCall → List (List ℕ)
 labels In call = call.ins
 labels Out call = call.outs
@@ -96,7 +96,7 @@ TakesFrom graph giver taker = (out_pad in_pad : ℕ) × AreJoined graph (record 
 
 -- ---- labels of input files
 
--- what may stand behind the number of a file: nothing, or what it is to give
+-- the text after the number of a file: empty, or the kind that the file is to give
 pub data SaysKind : List ℕ → Option Media → Type 0 where
   plain : SaysKind [] None
   video : SaysKind (58 ∷ 118 ∷ []) (Some media.Video)
@@ -104,19 +104,19 @@ pub data SaysKind : List ℕ → Option Media → Type 0 where
   audio : SaysKind (58 ∷ 97 ∷ []) (Some media.Audio)
   first_audio : SaysKind (58 ∷ 97 ∷ 58 ∷ 48 ∷ []) (Some media.Audio)
 
--- `N`, `N:v`, `N:v:0`, `N:a` or `N:a:0`, where N is 1 to 4 digits
+-- `N`, `N:v`, `N:v:0`, `N:a` or `N:a:0`, with N of 1 to 4 digits
 pub record SaysFile (name : List ℕ) (file : ℕ) (said : Option Media) : Type 0 where
   pub digits : List ℕ
-  pub behind : List ℕ
-  pub name_is : name ≡ digits ++ behind
+  pub suffix : List ℕ
+  pub name_is : name ≡ digits ++ suffix
   pub number : IsNumber 1 4 digits file
-  pub kind_said : SaysKind behind said
+  pub kind_said : SaysKind suffix said
 
 -- no output pad has this label
 abbrev pub IsOnNoOutput : Graph → List ℕ → Type 0
 IsOnNoOutput graph name = (filter pad : ℕ) → ¬ (label graph Out filter pad ≡ Some name)
 
--- an input pad's label stands on no output pad and names an input file
+-- an input pad's label is on no output pad and names an input file
 pub record NamesFile (graph : Graph) (taker : Place) (file : ℕ) (said : Option Media) : Type 0 where
   pub name : List ℕ
   pub is_label : label graph In taker.filter taker.pad ≡ Some name

@@ -12,7 +12,7 @@ use Rattle.graph_plan.specs.declared.labels.LabelTable.{LabelTable}
 use Rattle.graph_plan.specs.declared.origins.Origin.{Origin}
 use Rattle.graph_plan.specs.declared.origins.Origin.TheVariants.{Pad, File, Open}
 use Rattle.graph_plan.specs.declared.origins.Inlet.{Inlet}
-use Rattle.graph_plan.specs.Least.{IsLeast, Never}
+use Rattle.av_base.specs.First.{IsFirst, Never}
 use Rattle.graph_plan.specs.Graphs.{Graph, label, kind, pads_on, AreJoined, SaysFile, NamesFile, IsNamed, IsOnNoOutput, IsOpen}
 use Rattle.graph_plan.specs.Links.{IsTaken, IsLeft}
 use Rattle.graph_plan.specs.Refusals.{IsTwice, HasTooMany, HasWrongPads, HasLabelTwice, IsSmall}
@@ -35,8 +35,8 @@ abbrev pub IsNoted : Side → LabelTable → List ℕ → Type 0
 IsNoted Out others name = Unit {0}
 IsNoted In others name = HasPad others name
 
--- the label of a place stands on an earlier one of these
-pub record StandsTwice (graph : Graph) (side : Side) (Such : List ℕ → Type 0) (seen : List Place) (at : ℕ) (place : Place) : Type 0 where
+-- the label of a place is also on an earlier one of these
+pub record IsRepeated (graph : Graph) (side : Side) (Such : List ℕ → Type 0) (seen : List Place) (at : ℕ) (place : Place) : Type 0 where
   pub here : slice_get seen at ≡ Some place
   pub name : List ℕ
   pub such : Such name
@@ -49,9 +49,9 @@ pub record StandsTwice (graph : Graph) (side : Side) (Such : List ℕ → Type 0
 
 -- of these places none has a label twice, or the first that has is this filter's
 abbrev pub IsFirstTwice : Graph → Side → (List ℕ → Type 0) → List Place → Option ℕ → Type 0
-IsFirstTwice graph side Such seen None = (at : ℕ) (place : Place) → ¬ StandsTwice graph side Such seen at place
-IsFirstTwice graph side Such seen (Some filter) = (at : ℕ) × (place : Place) × StandsTwice graph side Such seen at place × (place.filter ≡ filter)
-    × ((other : ℕ) (another : Place) → other < at → ¬ StandsTwice graph side Such seen other another)
+IsFirstTwice graph side Such seen None = (at : ℕ) (place : Place) → ¬ IsRepeated graph side Such seen at place
+IsFirstTwice graph side Such seen (Some filter) = (at : ℕ) × (place : Place) × IsRepeated graph side Such seen at place × (place.filter ≡ filter)
+    × ((other : ℕ) (another : Place) → other < at → ¬ IsRepeated graph side Such seen other another)
 
 -- a table has those labels of these places that are such
 pub record HasSeen (graph : Graph) (side : Side) (Such : List ℕ → Type 0) (seen : List Place) (table : LabelTable) : Type 0 where
@@ -64,7 +64,7 @@ pub record HasSeen (graph : Graph) (side : Side) (Such : List ℕ → Type 0) (s
 pub record Notes (graph : Graph) (side : Side) (Such : List ℕ → Type 0) (table : LabelTable) : Type 0 where
   pub pad : (name : List ℕ) (place : Place) → pad_of table name ≡ Some place → (label graph side place.filter place.pad ≡ Some name) × Such name
   pub all : (filter pad : ℕ) (name : List ℕ) → label graph side filter pad ≡ Some name → Such name → HasPad table name
-  pub twice : MatchOption table.twice (Never (IsTwice graph side Such)) (IsLeast (IsTwice graph side Such))
+  pub twice : MatchOption table.twice (Never (IsTwice graph side Such)) (IsFirst (IsTwice graph side Such))
 
 -- the lesser of two numbers that may be there
 abbrev pub IsLesser : Option ℕ → Option ℕ → Option ℕ → Type 0
@@ -73,7 +73,7 @@ IsLesser a b (Some k) = ((a ≡ Some k) ⊎ (b ≡ Some k)) × ((m : ℕ) → a 
 
 -- ---- origins
 
--- an input pad's label says nothing
+-- an input pad's label names neither an output pad nor a file
 pub record IsUnknown (graph : Graph) (taker : Place) : Type 0 where
   pub name : List ℕ
   pub is_label : label graph In taker.filter taker.pad ≡ Some name
@@ -101,7 +101,7 @@ pub record AreInlets (graph : Graph) (inlets : List Inlet) : Type 0 where
 abbrev pub Differ : Option Media → Option Media → Type 0
 Differ first second = (one other : Media) × (first ≡ Some one) × (second ≡ Some other) × ¬ (one ≡ other)
 
--- an input pad takes what it doesn't want, or not what its label says
+-- an input pad gets another kind than its own, or than its label says
 abbrev pub IsMismatched : Graph → Place → Type 0
 IsMismatched graph taker = ((giver : Place) × AreJoined graph giver taker × Differ (kind graph Out giver.filter giver.pad) (kind graph In taker.filter taker.pad))
     ⊎ ((file : ℕ) × (said : Option Media) × NamesFile graph taker file said
@@ -137,7 +137,7 @@ pub record IsCounted (graph : Graph) : Type 0 where
   pub few : (outputs : ℕ) × ¬ HasTooMany graph outputs
   pub pads : Never (HasWrongPads graph)
 
--- and no label stands twice
+-- and no label occurs twice
 pub record FitsTogether (graph : Graph) : Type 0 where
   pub counted : IsCounted graph
   pub labels : Never (HasLabelTwice graph)

@@ -27,7 +27,7 @@ CanTake graph files (to.Filter filter pad) gives = kind graph In filter pad ≡ 
 CanTake graph files (to.Output output) gives = (file : OutputFile) × (slice_get files output ≡ Some file) × ¬ CannotTake file.ending gives
 
 -- the ends of links are there and agree, each input pad and each output file is the end of one link, and each filter
--- comes once, behind those that it takes from
+-- comes once, after those that it takes from
 pub record IsLawful (graph : Graph) (files : List OutputFile) (plan : Plan) : Type 0 where
   pub agree : (link : Edge) → Contains plan.links link → (gives : Media) × (given graph link.from ≡ Some gives) × CanTake graph files link.to gives
   pub once : (i j : ℕ) (a b : Edge) → slice_get plan.links i ≡ Some a → slice_get plan.links j ≡ Some b → a.to ≡ b.to → i ≡ j
@@ -36,7 +36,7 @@ pub record IsLawful (graph : Graph) (files : List OutputFile) (plan : Plan) : Ty
   pub filters : (filter : ℕ) → filter < length graph.calls → Contains plan.order filter
   pub below : (filter : ℕ) → Contains plan.order filter → filter < length graph.calls
   pub distinct : (i j filter : ℕ) → slice_get plan.order i ≡ Some filter → slice_get plan.order j ≡ Some filter → i ≡ j
-  pub behind : (giver taker : ℕ) → Feeds plan.links giver taker
+  pub after : (giver taker : ℕ) → Feeds plan.links giver taker
       → (i j : ℕ) × (slice_get plan.order i ≡ Some giver) × (slice_get plan.order j ≡ Some taker) × (i < j)
 
 -- a graph's draft, once it is bound, keeps to this

@@ -1,4 +1,3 @@
-pub mod Least
 pub mod Orders
 pub mod Graphs
 pub mod Links

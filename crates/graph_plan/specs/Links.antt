@@ -13,7 +13,7 @@ use Rattle.graph_plan.specs.declared.places.Place.{Place}
 use Rattle.graph_plan.specs.declared.places.Side.TheVariants.{In, Out}
 use Rattle.graph_plan.specs.Orders.{IsOrder}
 use Rattle.graph_plan.specs.Graphs.{Graph, label, kind, pads_on, AreJoined, NamesFile, IsNamed, IsOpen, TakesFrom}
-use Rattle.graph_plan.specs.Least.{IsLeast}
+use Rattle.av_base.specs.First.{IsFirst}
 
 -- ---- origins
 
@@ -27,19 +27,19 @@ pub record IsLeft (graph : Graph) (before : List Edge) (wanted : Media) (file : 
   pub unnamed : ¬ IsNamed graph file
   pub untaken : ¬ IsTaken before file
 
--- where an input pad takes from, behind these links: from the output pad that the text joins to it, from the file that
--- its label names, or, where it is open, from the first file of its kind that is left
+-- where an input pad takes from, after these links: from the output pad that the text joins to it, from the file that
+-- its label names, or, if it is open, from the first file of its kind that is left
 abbrev pub IsOrigin : Graph → List Edge → Place → Source → Type 0
 IsOrigin graph before taker origin = ((giver : Place) × (origin ≡ from.Filter giver.filter giver.pad) × AreJoined graph giver taker)
     ⊎ (((file : ℕ) × (said : Option Media) × (origin ≡ from.Input file) × NamesFile graph taker file said)
     ⊎ ((wanted : Media) × (file : ℕ) × (origin ≡ from.Input file) × IsOpen graph taker
-    × (kind graph In taker.filter taker.pad ≡ Some wanted) × IsLeast (IsLeft graph before wanted) file))
+    × (kind graph In taker.filter taker.pad ≡ Some wanted) × IsFirst (IsLeft graph before wanted) file))
 
 -- the link to an input pad
 abbrev pub link_to : Place → Source → Edge
 link_to taker origin = record { from = origin; to = to.Filter taker.filter taker.pad }
 
--- behind these links come those to these input pads, each from its origin
+-- after these links come those to these input pads, each from its origin
 abbrev pub AreLinks : Graph → List Edge → List Place → List Edge → Type 0
 AreLinks graph before [] [] = Unit {0}
 AreLinks graph before [] (link ∷ links) = ⊥
@@ -63,7 +63,7 @@ AreLeft graph (giver ∷ givers) outs = (((taker : Place) × AreJoined graph giv
 
 -- ---- the draft
 
--- all that a draft says
+-- what a draft consists of
 pub record IsDraft (graph : Graph) (draft : DraftPlan) : Type 0 where
   pub links : AreLinks graph [] (pads_on graph In) draft.links
   pub order : IsOrder (TakesFrom graph) (length graph.calls) draft.order

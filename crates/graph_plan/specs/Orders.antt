@@ -9,7 +9,7 @@ use Rattle.graph_plan.specs.declared.plan.Target.TheVariants as to
 abbrev pub Feeds : List Edge → ℕ → ℕ → Type 0
 Feeds links giver taker = (out_pad in_pad : ℕ) × Contains links (record { from = from.Filter giver out_pad; to = to.Filter taker in_pad })
 
--- links lead from the one filter to the other, one behind another
+-- links lead from the one filter to the other, one after another
 pub data LeadsTo (feeds : ℕ → ℕ → Type 0) (taker : ℕ) : ℕ → Type 0 where
   Directly : (giver : ℕ) → feeds giver taker → LeadsTo feeds taker giver
   Through : (giver middle : ℕ) → feeds giver middle → LeadsTo feeds taker middle → LeadsTo feeds taker giver
@@ -21,22 +21,22 @@ Reaches feeds giver taker = LeadsTo feeds taker giver
 abbrev pub IsReady : (ℕ → ℕ → Type 0) → List ℕ → ℕ → Type 0
 IsReady feeds done taker = (giver : ℕ) → feeds giver taker → Contains done giver
 
--- behind those that are done come these, each the least that can come
+-- after those that are done come these, each the lowest that can come
 abbrev pub Comes : (ℕ → ℕ → Type 0) → ℕ → List ℕ → List ℕ → Type 0
 Comes feeds count done [] = length done ≡ count
 Comes feeds count done (filter ∷ filters) = (filter < count) × (¬ Contains done filter) × IsReady feeds done filter
     × ((other : ℕ) → other < filter → ¬ Contains done other → ¬ IsReady feeds done other) × Comes feeds count (done ++ filter ∷ []) filters
 
--- all filters, each time the least that takes from files and from filters before it alone
+-- all filters, each time the lowest that takes only from files and from filters before it
 abbrev pub IsOrder : (ℕ → ℕ → Type 0) → ℕ → List ℕ → Type 0
 IsOrder feeds count order = Comes feeds count [] order
 
--- links lead between these filters alone
+-- links lead only to and from these filters
 pub record AreBelow (feeds : ℕ → ℕ → Type 0) (count : ℕ) : Type 0 where
   pub givers : (giver taker : ℕ) → feeds giver taker → giver < count
   pub takers : (giver taker : ℕ) → feeds giver taker → taker < count
 
--- there is one order at most, and one exactly where no filter reaches itself
+-- there is at most one order, and there is one exactly if no filter reaches itself
 pub record OneOrder : Type 0 where
   pub one_order : (links : List Edge) (count : ℕ) (a b : List ℕ) → IsOrder (Feeds links) count a → IsOrder (Feeds links) count b → a ≡ b
   pub no_cycle : (links : List Edge) (count filter : ℕ) (order : List ℕ) → AreBelow (Feeds links) count → IsOrder (Feeds links) count order

@@ -2,7 +2,7 @@
 use Rattle.std.specs.Prelude.{◌≡◌, ◌≢◌, ◌<◌, ◌≤◌, ◌↔◌, ℕ, Bool, List, Option, Some, length, bytes_eq, MatchOption}
 use Rattle.std.specs.HashMap.{get_by}
 use Rattle.graph_plan.specs.declared.called.PadTable.{PadTable}
-use Rattle.graph_plan.specs.Least.{IsLeast}
+use Rattle.av_base.specs.First.{IsFirst}
 use Rattle.graph_plan.specs.Arranging.{IsMarked}
 use Rattle.std.specs.List.{slice_get, Contains}
 use Rattle.graph_plan.specs.declared.plan.Edge.{Edge}
@@ -29,9 +29,9 @@ pad_called table (Number number) = slice_get table.numbered.items number
 abbrev pub AreCalled : List Name → PadTable → Type 0
 AreCalled names table = (name : Name) → MatchOption (pad_called table name)
     ((o : ℕ) → slice_get names o ≢ Some name)
-    (IsLeast (λ o. slice_get names o ≡ Some name))
+    (IsFirst (λ o. slice_get names o ≡ Some name))
 
--- so many marks, of which those at these places are set
+-- as many marks as given, of which those at these places are set
 pub record MarksThese (count : ℕ) (places : List ℕ) (marks : List Bool) : Type 0 where
   pub each : length marks ≡ count
   pub marked : (o : ℕ) → IsMarked marks o ↔ Contains places o

@@ -12,7 +12,7 @@ use Rattle.graph_plan.specs.declared.plan.PlanFault.TheVariants.{TooManyLinks, P
 use Rattle.graph_plan.specs.declared.places.Place.{Place}
 use Rattle.graph_plan.specs.declared.places.Side.{Side}
 use Rattle.graph_plan.specs.declared.places.Side.TheVariants.{In, Out}
-use Rattle.graph_plan.specs.Least.{IsLeast, Never}
+use Rattle.av_base.specs.First.{IsFirst, Never}
 use Rattle.graph_plan.specs.Orders.{Reaches}
 use Rattle.graph_plan.specs.Graphs.{Graph, labels, kinds, label, kind, pads_on, IsBefore, AreNeighbours, AreJoined, TakesFrom, IsOnNoOutput, SaysFile, NamesFile, IsOpen}
 use Rattle.graph_plan.specs.Links.{IsLeft, IsOrigin, link_to, IsDraft}
@@ -43,7 +43,7 @@ pub record LacksInput (graph : Graph) (filter : ℕ) : Type 0 where
 abbrev pub HasWrongPads : Graph → ℕ → Type 0
 HasWrongPads graph filter = HasMoreLabels graph filter ⊎ LacksInput graph filter
 
--- a pad's label stands on an earlier pad of its side, and is such a label
+-- a pad's label is also on an earlier pad of its side, and is such a label
 pub record IsTwice (graph : Graph) (side : Side) (Such : List ℕ → Type 0) (filter : ℕ) : Type 0 where
   pub name : List ℕ
   pub such : Such name
@@ -57,11 +57,12 @@ pub record IsTwice (graph : Graph) (side : Side) (Such : List ℕ → Type 0) (f
 abbrev pub IsOnOutput : Graph → List ℕ → Type 0
 IsOnOutput graph name = (filter pad : ℕ) × (label graph Out filter pad ≡ Some name)
 
--- the label of an output pad stands on an earlier one, or that of an input pad on an earlier one and on an output pad
+-- the label of an output pad is on an earlier output pad, or that of an input pad is on an earlier input pad and on an
+-- output pad
 abbrev pub HasLabelTwice : Graph → ℕ → Type 0
 HasLabelTwice graph filter = IsTwice graph Out (λ name. Unit {0}) filter ⊎ IsTwice graph In (IsOnOutput graph) filter
 
--- an input pad's label stands on no output pad and names no input file
+-- an input pad's label is on no output pad and names no input file
 pub record HasUnknownInput (graph : Graph) (filter : ℕ) : Type 0 where
   pub pad : ℕ
   pub name : List ℕ
@@ -80,7 +81,7 @@ pub record JoinsOther (graph : Graph) (filter : ℕ) : Type 0 where
   pub is_wanted : kind graph In filter pad ≡ Some wants
   pub differ : gives ≢ wants
 
--- a label names a file of another kind than its pad's, or than it says
+-- a label names a file of another kind than its pad takes, or than the label says
 pub record NamesOther (graph : Graph) (filter : ℕ) : Type 0 where
   pub pad : ℕ
   pub file : ℕ
@@ -99,7 +100,7 @@ HasMismatch graph filter = JoinsOther graph filter ⊎ NamesOther graph filter
 abbrev pub HasCycle : Graph → ℕ → Type 0
 HasCycle graph filter = Reaches (TakesFrom graph) filter filter
 
--- behind these links, the first of these input pads that finds no origin: an open one of whose kind no file is left
+-- after these links, the first of these input pads that finds no origin: it is open, and no file of its kind is left
 abbrev pub FindsNone : Graph → List Edge → List Place → ℕ → ℕ → Type 0
 FindsNone graph before [] filter pad = ⊥
 FindsNone graph before (taker ∷ takers) filter pad =
@@ -107,7 +108,7 @@ FindsNone graph before (taker ∷ takers) filter pad =
     × ((wanted : Media) × (kind graph In taker.filter taker.pad ≡ Some wanted) × Never (IsLeft graph before wanted)))
     ⊎ ((origin : Source) × IsOrigin graph before taker origin × FindsNone graph (before ++ link_to taker origin ∷ []) takers filter pad)
 
--- none of the faults that stand before open pads
+-- none of the faults that come before open pads
 pub record IsSound (graph : Graph) (outputs : ℕ) : Type 0 where
   pub few : ¬ HasTooMany graph outputs
   pub pads : Never (HasWrongPads graph)
@@ -115,16 +116,16 @@ pub record IsSound (graph : Graph) (outputs : ℕ) : Type 0 where
   pub inputs : Never (HasUnknownInput graph)
   pub kinds : Never (HasMismatch graph)
 
--- the first fault: the first kind that occurs, at the least filter, and pad
+-- the first fault: the first kind that occurs, at the lowest filter, and pad
 abbrev pub IsLinkFault : Graph → ℕ → PlanFault → Type 0
 IsLinkFault graph outputs TooManyLinks = HasTooMany graph outputs
-IsLinkFault graph outputs (PadCount filter) = ¬ HasTooMany graph outputs × IsLeast (HasWrongPads graph) filter
-IsLinkFault graph outputs (LabelTwice filter) = ¬ HasTooMany graph outputs × Never (HasWrongPads graph) × IsLeast (HasLabelTwice graph) filter
+IsLinkFault graph outputs (PadCount filter) = ¬ HasTooMany graph outputs × IsFirst (HasWrongPads graph) filter
+IsLinkFault graph outputs (LabelTwice filter) = ¬ HasTooMany graph outputs × Never (HasWrongPads graph) × IsFirst (HasLabelTwice graph) filter
 IsLinkFault graph outputs (UnknownInput filter) = ¬ HasTooMany graph outputs × Never (HasWrongPads graph) × Never (HasLabelTwice graph)
-    × IsLeast (HasUnknownInput graph) filter
+    × IsFirst (HasUnknownInput graph) filter
 IsLinkFault graph outputs (MediaMismatch filter) = ¬ HasTooMany graph outputs × Never (HasWrongPads graph) × Never (HasLabelTwice graph)
-    × Never (HasUnknownInput graph) × IsLeast (HasMismatch graph) filter
-IsLinkFault graph outputs (Cycle filter) = IsSound graph outputs × IsLeast (HasCycle graph) filter
+    × Never (HasUnknownInput graph) × IsFirst (HasMismatch graph) filter
+IsLinkFault graph outputs (Cycle filter) = IsSound graph outputs × IsFirst (HasCycle graph) filter
 IsLinkFault graph outputs (OpenPad filter pad) = IsSound graph outputs × Never (HasCycle graph) × FindsNone graph [] (pads_on graph In) filter pad
 IsLinkFault graph outputs (NoSuchOutput output) = ⊥
 IsLinkFault graph outputs (Unmapped filter pad) = ⊥

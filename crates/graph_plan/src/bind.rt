@@ -1,8 +1,9 @@
 //! Binding of output files to open output pads.
 ghost use Rattle.std.specs.Prelude.{◌≡◌, ◌<◌, ◌^◌, ◌↔◌, ◌++◌, ◌∷◌, [], ℕ, List, Some, true, length, set, IsTrue, IfOk, IfSome, IsNone};
 ghost use Rattle.std.specs.List.{slice_get};
-ghost use Rattle.graph_plan.specs.Bindings.{Name, name_of, number_behind, IsUnmapped, CannotTake, TakesWrong, IsBindFault, IsBound, IfFault, Gives, Refuses};
-ghost use Rattle.graph_plan.specs.Least.{IsLeast};
+ghost use Rattle.graph_plan.specs.Bindings.{Name, name_of, number_after, IsUnmapped, CannotTake, TakesWrong, IsBindFault, IsBound};
+ghost use Rattle.av_base.specs.Failures.{IfFault, Gives, Refuses};
+ghost use Rattle.av_base.specs.First.{IsFirst};
 ghost use Rattle.graph_plan.specs.Places.{pad_called, AreFound, MarksThese, AreLinks};
 ghost use Rattle.graph_plan.specs.Arranging.{IsMarked};
 ghost use Rattle.graph_plan.specs.declared.called.PadTable.{PadTable};
@@ -14,13 +15,13 @@ use crate::called::{PadTable, index_opens};
 use crate::plan::{
     DraftPlan, Edge, Ending, OpenOut, OutputFile, Plan, PlanError, PlanFault, Source, Target,
 };
-use av_base::{List, Media, Text};
+use av_base::{List, Media, NoMemory, Text};
 use std::alloc::Global;
 
-/// The number of the next one without a label.
+/// The number of the next file without a label.
 fn next_number(label: &Option<Text>, number: usize) -> usize
     requires { number < usize.MAX }
-    ensures { result ≡ number_behind label.now number }
+    ensures { result ≡ number_after label.now number }
 {
     match label {
         Some(_) => number,
@@ -28,15 +29,13 @@ fn next_number(label: &Option<Text>, number: usize) -> usize
     }
 }
 
-/// The place of the pad that is called so, where it isn't taken yet.
+/// The place of the first pad with this label, or with this number if there is no label, if it isn't taken yet.
 fn find_free(table: &PadTable, marks: &[bool], label: &Option<Text>, number: usize) -> Option<usize>
     requires { (name : Name) → IfSome (pad_called table.now name) (λ o. o < length marks.now) }
     ensures free { IfSome result (λ o. (pad_called table.now (name_of label.now number) ≡ Some o) × ¬ IsMarked marks.now o) }
     ensures none { IsNone result → (o : ℕ) → pad_called table.now (name_of label.now number) ≡ Some o → IsMarked marks.now o }
 {
-    let Some(place) = table.find(label, number) else {
-        return None;
-    };
+    let place = table.find(label, number)?;
     if marks[place] {
         return None;
     }
@@ -54,11 +53,10 @@ pub(crate) struct Taken {
 
 impl Taken {
     /// Takes the pad at a place for the next file.
-    fn push(&mut self, place: usize) -> Result<(), PlanError>
+    fn push(&mut self, place: usize) -> Result<(), NoMemory>
         requires { place < length self.old.marks.items }
         ensures places { IfOk result (λ _. self.new.places.items ≡ self.old.places.items ++ place ∷ []) }
         ensures marks { IfOk result (λ _. self.new.marks.items ≡ set self.old.marks.items place true) }
-        ensures fault { IfFault result (λ f. ⊥) }
     {
         self.places.push(place)?;
         self.marks[place] = true;
@@ -93,7 +91,7 @@ fn take_pads(alloc: Global, pads: &[OpenOut], files: &[OutputFile]) -> Result<Ta
 
 /// The first that isn't marked.
 fn first_left(marks: &[bool]) -> Option<usize>
-    ensures left { IfSome result (IsLeast (λ o. (o < length marks.now) × ¬ IsMarked marks.now o)) }
+    ensures left { IfSome result (IsFirst (λ o. (o < length marks.now) × ¬ IsMarked marks.now o)) }
     ensures none { IsNone result → (o : ℕ) → o < length marks.now → IsMarked marks.now o }
 {
     'marks: for (place, marked) in marks.iter().enumerate() {
@@ -104,7 +102,7 @@ fn first_left(marks: &[bool]) -> Option<usize>
     None
 }
 
-/// Whether a file written so can't take what a pad gives.
+/// Whether a file of this kind can't take what a pad gives.
 fn cannot_take(ending: Ending, media: Media) -> bool
     ensures { IsTrue result ↔ CannotTake ending media }
 {
@@ -118,7 +116,7 @@ fn cannot_take(ending: Ending, media: Media) -> bool
 fn first_wrong(pads: &[OpenOut], files: &[OutputFile], places: &[usize]) -> Option<usize>
     requires found { AreFound pads.now files.now places.now }
     requires each { length places.now ≡ length files.now }
-    ensures wrong { IfSome result (IsLeast (TakesWrong pads.now files.now)) }
+    ensures wrong { IfSome result (IsFirst (TakesWrong pads.now files.now)) }
     ensures none { IsNone result → (k : ℕ) → TakesWrong pads.now files.now k → ⊥ }
 {
     'files: for (output, place) in places.iter().enumerate() {
@@ -156,11 +154,10 @@ fn push_outputs(
     mut links: Vec<Edge>,
     pads: &[OpenOut],
     places: &[usize],
-) -> Result<Vec<Edge>, PlanError>
+) -> Result<Vec<Edge>, NoMemory>
     requires few { length places.now < 2 ^ 32 }
     requires within { (k o : ℕ) → slice_get places.now k ≡ Some o → o < length pads.now }
-    ensures links { IfOk result (λ all. (outputs : List Edge) × (all.items ≡ links.items ++ outputs) × (length outputs ≡ length places.now) × AreLinks pads.now places.now outputs) }
-    ensures fault { IfFault result (λ f. ⊥) }
+    ensures { IfOk result (λ all. (outputs : List Edge) × (all.items ≡ links.items ++ outputs) × (length outputs ≡ length places.now) × AreLinks pads.now places.now outputs) }
 {
     'places: for (output, place) in places.iter().enumerate() {
         let pad = &pads[*place];
@@ -179,19 +176,20 @@ impl DraftPlan {
     /// The plan whose outputs are these files.
     ///
     /// A file with a label takes the open pad with that label, and the files without one take, in order, the open pads
-    /// without one. A refusal releases the draft. There are fewer than 2^32 files.
+    /// without one. There are fewer than 2^32 files. The draft is dropped also on an error.
     ///
-    /// Errors, in this rank: `NoSuchOutput` of the least file that finds no pad, or one that an earlier file took;
-    /// `Unmapped` of the first pad that no file takes; `WrongKind` of the least file that can't take what its pad
-    /// gives. Or want of memory.
+    /// # Errors
+    /// The first of these that occurs: `NoSuchOutput` at the lowest file that finds no pad, or one that an earlier file
+    /// took; `Unmapped` at the first pad that no file takes; `WrongKind` at the lowest file that can't take what its pad
+    /// gives. Or out of memory.
     pub fn bind(self, alloc: Global, outputs: &List<OutputFile>) -> Result<Plan, PlanError>
         requires { length outputs.now < 2 ^ 32 }
         ensures bound { IfOk result (IsBound self outputs.now) }
         // What binds isn't refused, and has no other plan.
-        ensures binds { (plan : Plan) → IsBound self outputs.now plan → Gives plan result }
+        ensures binds { (plan : Plan) → IsBound self outputs.now plan → Gives (λ made. made ≡ plan) result }
         ensures fault { IfFault result (IsBindFault self.opens outputs.now) }
         // What has a fault isn't bound, and has no other.
-        ensures faulty { (f : PlanFault) → IsBindFault self.opens outputs.now f → Refuses f result }
+        ensures faulty { (f : PlanFault) → IsBindFault self.opens outputs.now f → Refuses (λ found. found ≡ f) result }
     {
         let DraftPlan {
             links,

@@ -6,7 +6,7 @@ use std::alloc::{AllocError, Global};
 use std::process::Abort;
 use std::test::Fail;
 
-/// The label of this name, or none where it is empty.
+/// The label of this name, or none if it is empty.
 fn label(alloc: Global, name: &str) -> Result<Option<Text>, AllocError> {
     if name.is_empty() {
         return Ok(None);

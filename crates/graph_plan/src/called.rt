@@ -1,11 +1,11 @@
 //! Open output pads by what they are called: those with a label by it, and the others by their numbers among themselves.
 ghost use Rattle.std.specs.Prelude.{◌≡◌, ◌++◌, ◌∷◌, [], List, None, length, IfOk};
 ghost use Rattle.graph_plan.specs.declared.called.PadTable.{PadTable};
-ghost use Rattle.graph_plan.specs.Bindings.{Name, name_of, number_behind, pad_names, IfFault};
+ghost use Rattle.graph_plan.specs.Bindings.{Name, name_of, number_after, pad_names};
 ghost use Rattle.graph_plan.specs.Places.{pad_called, AreCalled};
 
-use crate::plan::{OpenOut, PlanError};
-use av_base::Text;
+use crate::plan::OpenOut;
+use av_base::{NoMemory, Text};
 use indexmap::IndexMap;
 use std::alloc::Global;
 
@@ -30,7 +30,7 @@ impl PadTable<'_> {
         }
     }
 
-    /// The place of the first pad that is called so.
+    /// The place of the first pad with this label, or with this number if there is no label.
     pub(crate) fn find(&self, label: &Option<Text>, number: usize) -> Option<usize>
         ensures { result ≡ pad_called self.now (name_of label.now number) }
     {
@@ -42,11 +42,10 @@ impl PadTable<'_> {
 }
 
 /// Adds the pad at a place.
-fn add_pad<'a>(table: &mut PadTable<'a>, pad: &'a OpenOut, place: usize) -> Result<(), PlanError>
+fn add_pad<'a>(table: &mut PadTable<'a>, pad: &'a OpenOut, place: usize) -> Result<(), NoMemory>
     ensures called { (names : List Name) → length names ≡ place → AreCalled names table.old
         → IfOk result (λ _. AreCalled (names ++ name_of pad.now.label (length table.old.numbered.items) ∷ []) table.new) }
-    ensures numbered { IfOk result (λ _. length table.new.numbered.items ≡ number_behind pad.now.label (length table.old.numbered.items)) }
-    ensures fault { IfFault result (λ f. ⊥) }
+    ensures numbered { IfOk result (λ _. length table.new.numbered.items ≡ number_after pad.now.label (length table.old.numbered.items)) }
 {
     let Some(label) = &pad.label else {
         table.numbered.push(place)?;
@@ -60,9 +59,8 @@ fn add_pad<'a>(table: &mut PadTable<'a>, pad: &'a OpenOut, place: usize) -> Resu
 }
 
 /// The open pads by what they are called.
-pub(crate) fn index_opens<'a>(alloc: Global, pads: &'a [OpenOut]) -> Result<PadTable<'a>, PlanError>
-    ensures called { IfOk result (AreCalled (pad_names pads.now)) }
-    ensures fault { IfFault result (λ f. ⊥) }
+pub(crate) fn index_opens<'a>(alloc: Global, pads: &'a [OpenOut]) -> Result<PadTable<'a>, NoMemory>
+    ensures { IfOk result (AreCalled (pad_names pads.now)) }
 {
     let mut table = PadTable::new(alloc);
     'pads: for (place, pad) in pads.iter().enumerate() {

@@ -1,7 +1,7 @@
 //! How many links and pads there are.
 ghost use Rattle.std.specs.Prelude.{◌≡◌, ◌<◌, ◌≤◌, ◌+◌, ◌-◌, ◌↔◌, ℕ, length, sum_by, IsTrue, IfOk, IfSome, IsNone};
-ghost use Rattle.graph_plan.specs.Bindings.{IfFault};
-ghost use Rattle.graph_plan.specs.Least.{IsLeast, Never};
+ghost use Rattle.av_base.specs.Failures.{IfFault};
+ghost use Rattle.av_base.specs.First.{IsFirst, Never};
 ghost use Rattle.graph_plan.specs.Graphs.{labels, kinds};
 ghost use Rattle.graph_plan.specs.Refusals.{HasTooMany, HasWrongPads, HasMoreLabels, LacksInput, IsLinkFault, IsSmall};
 ghost use Rattle.graph_plan.specs.Joining.{graph_of, IsCounted};
@@ -72,7 +72,7 @@ fn has_wrong_pads(parts: &Parts, filter: usize) -> bool
 /// The first filter whose labels and pads don't fit.
 fn first_wrong_pads(parts: &Parts) -> Option<usize>
     requires { length parts.now.pads.now ≡ length parts.now.calls.now }
-    ensures wrong { IfSome result (IsLeast (HasWrongPads (graph_of parts.now))) }
+    ensures wrong { IfSome result (IsFirst (HasWrongPads (graph_of parts.now))) }
     ensures within { IfSome result (λ f. f < length parts.now.calls.now) }
     ensures none { IsNone result → Never (HasWrongPads (graph_of parts.now)) }
 {

@@ -3,7 +3,7 @@ ghost use Rattle.std.specs.Prelude.{◌≡◌, ◌↔◌, ◌++◌, ◌∷◌, [
 ghost use Rattle.graph_plan.specs.declared.labels.LabelTable.{LabelTable};
 ghost use Rattle.graph_plan.specs.declared.places.Side.{Side};
 ghost use Rattle.graph_plan.specs.declared.places.Place.{Place};
-ghost use Rattle.graph_plan.specs.Bindings.{IfFault};
+ghost use Rattle.av_base.specs.Failures.{IfFault};
 ghost use Rattle.graph_plan.specs.Graphs.{Graph, label};
 ghost use Rattle.graph_plan.specs.Refusals.{HasTooMany, IsLinkFault, IsOnOutput};
 ghost use Rattle.graph_plan.specs.declared.places.Side.TheVariants.{In, Out};
@@ -11,6 +11,7 @@ ghost use Rattle.graph_plan.specs.Joining.{graph_of, pad_of, IsNoted, HasSeen, N
 
 use crate::places::{Parts, Place, Side, label_of, label_places};
 use crate::plan::{PlanError, PlanFault};
+use av_base::NoMemory;
 use indexmap::IndexMap;
 use std::alloc::Global;
 
@@ -19,7 +20,7 @@ use std::alloc::Global;
 pub(crate) struct LabelTable<'a> {
     /// The first pad with each label.
     pub(crate) pads: IndexMap<&'a str, Place>,
-    /// The filter of the first pad whose label stands on an earlier one.
+    /// The filter of the first pad whose label is also on an earlier pad.
     pub(crate) twice: Option<u32>,
 }
 
@@ -36,7 +37,7 @@ impl LabelTable<'_> {
     }
 }
 
-/// Whether a label is to be noted: all of output pads are, and those of input pads that another table has.
+/// Whether a label is to be noted: each one of an output pad is, and one of an input pad if the other table has it.
 fn is_noted(side: Side, others: &LabelTable, name: &str) -> bool
     ensures { IsTrue result ↔ IsNoted side others.now name.now }
 {
@@ -47,11 +48,10 @@ fn is_noted(side: Side, others: &LabelTable, name: &str) -> bool
 }
 
 /// Notes a label and its pad.
-fn note_label<'a>(table: &mut LabelTable<'a>, name: &'a str, place: Place) -> Result<(), PlanError>
-    ensures noted { (graph : Graph) (side : Side) (others : LabelTable) (seen : List Place)
+fn note_label<'a>(table: &mut LabelTable<'a>, name: &'a str, place: Place) -> Result<(), NoMemory>
+    ensures { (graph : Graph) (side : Side) (others : LabelTable) (seen : List Place)
         → label graph side place.filter place.pad ≡ Some name.now → IsNoted side others name.now
         → HasSeen graph side (IsNoted side others) seen table.old → IfOk result (λ _. HasSeen graph side (IsNoted side others) (seen ++ place ∷ []) table.new) }
-    ensures fault { IfFault result (λ f. ⊥) }
 {
     if table.pads.contains_key(name) {
         table.twice = table.twice.or(Some(place.filter));
@@ -68,10 +68,9 @@ fn note_place<'a>(
     side: Side,
     others: &LabelTable,
     place: Place,
-) -> Result<(), PlanError>
-    ensures noted { (seen : List Place) → HasSeen (graph_of parts.now) side (IsNoted side others.now) seen table.old
+) -> Result<(), NoMemory>
+    ensures { (seen : List Place) → HasSeen (graph_of parts.now) side (IsNoted side others.now) seen table.old
         → IfOk result (λ _. HasSeen (graph_of parts.now) side (IsNoted side others.now) (seen ++ place ∷ []) table.new) }
-    ensures fault { IfFault result (λ f. ⊥) }
 {
     let Some(name) = label_of(parts, side, place) else {
         return Ok(());
@@ -82,16 +81,15 @@ fn note_place<'a>(
     note_label(table, name, place)
 }
 
-/// The pads of a side by their labels; of the labels of input pads, by those that another table has too.
+/// The pads of a side by their labels. For input pads, only the labels that the other table has too.
 fn index_labels<'a>(
     alloc: Global,
     parts: &Parts<'a, '_, '_>,
     side: Side,
     others: &LabelTable,
-) -> Result<LabelTable<'a>, PlanError>
+) -> Result<LabelTable<'a>, NoMemory>
     requires { IsCounted (graph_of parts.now) }
-    ensures noted { IfOk result (Notes (graph_of parts.now) side (IsNoted side others.now)) }
-    ensures fault { IfFault result (λ f. ⊥) }
+    ensures { IfOk result (Notes (graph_of parts.now) side (IsNoted side others.now)) }
 {
     let mut table = LabelTable::new(alloc);
     let places = label_places(alloc, parts.calls, side)?;
@@ -112,7 +110,7 @@ fn lesser(first: Option<u32>, second: Option<u32>) -> Option<u32>
     }
 }
 
-/// The output pads by their labels, and the input pads by those of theirs that stand on output pads.
+/// The output pads by their labels, and the input pads by those of their labels that are also on output pads.
 #[derive(Drop)]
 pub(crate) struct Labels<'a> {
     /// The output pads.
@@ -121,7 +119,7 @@ pub(crate) struct Labels<'a> {
     pub(crate) ins: LabelTable<'a>,
 }
 
-/// The pads by their labels, of which none stands twice.
+/// The pads by their labels. No label occurs twice.
 pub(crate) fn index_pads<'a>(
     alloc: Global,
     parts: &Parts<'a, '_, '_>,

@@ -1,10 +1,10 @@
-//! Graphs have one plan.
+//! Laws of plans: what exists is unique, and what a plan keeps to.
 ghost use Rattle.graph_plan.specs.Orders.{OneOrder};
 ghost use Rattle.graph_plan.specs.Refusals.{GraphsLinkInOneWay};
 ghost use Rattle.graph_plan.specs.Bindings.{OutputsBindInOneWay};
 ghost use Rattle.graph_plan.specs.Lawful.{PlansAreLawful};
 
-/// Links have one order of filters at most, and one exactly where no filter reaches itself.
+/// Links have at most one order of filters, and they have one exactly if no filter reaches itself.
 pub fn plans_have_one_order()
     ensures { OneOrder }
 {}
@@ -14,13 +14,13 @@ pub fn outputs_bind_in_one_way()
     ensures { OutputsBindInOneWay }
 {}
 
-/// A graph has one draft or one fault at most, and never both.
+/// A graph has at most one draft or fault, and never both.
 pub fn graphs_link_in_one_way()
     ensures { GraphsLinkInOneWay }
 {}
 
 /// In a plan the ends of links are there and agree, each input pad and each output file is the end of one link, and each
-/// filter comes once, behind those that it takes from.
+/// filter comes once, after those that it takes from.
 pub fn plans_are_lawful()
     ensures { PlansAreLawful }
 {}

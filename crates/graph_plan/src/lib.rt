@@ -1,4 +1,4 @@
-//! Plans: which pad gives to which, in which order the filters come, and which output takes what.
+//! Plans: which pad gives to which, in which order the filters come, and which output file takes which pad.
 #![tactic(auto)]
 
 mod bind;

@@ -7,8 +7,8 @@ ghost use Rattle.graph_plan.specs.declared.places.Place.{Place};
 ghost use Rattle.graph_plan.specs.declared.plan.Source.TheVariants.{Filter};
 ghost use Rattle.graph_plan.specs.declared.origins.Origin.TheVariants.{Pad};
 ghost use Rattle.graph_plan.specs.Links.{link_to};
-ghost use Rattle.graph_plan.specs.Bindings.{IfFault, Gives, Refuses};
-ghost use Rattle.graph_plan.specs.Least.{Never};
+ghost use Rattle.av_base.specs.Failures.{IfFault, Gives, Refuses};
+ghost use Rattle.av_base.specs.First.{Never};
 ghost use Rattle.graph_plan.specs.Orders.{Feeds, IsOrder};
 ghost use Rattle.graph_plan.specs.Graphs.{Graph, TakesFrom};
 ghost use Rattle.graph_plan.specs.Refusals.{HasCycle, IsLinkFault, IsLinked, IsOnOutput, IsSmall, IsSound};
@@ -23,7 +23,7 @@ use crate::origins::{Inlet, Origin, check_kinds, list_inlets};
 use crate::places::Parts;
 use crate::plan::{DraftPlan, Edge, Pads, PlanError, PlanFault, Source, Target};
 use crate::turns::take_files;
-use av_base::{List, Media};
+use av_base::{List, Media, NoMemory};
 use graph_text::GraphText;
 use std::alloc::Global;
 
@@ -48,9 +48,8 @@ fn joined_edge(inlet: &Inlet) -> Option<Edge>
 }
 
 /// The links between filters.
-fn list_joined(alloc: Global, inlets: &[Inlet]) -> Result<Vec<Edge>, PlanError>
-    ensures joined { IfOk result (λ edges. (giver taker : ℕ) → Feeds edges.items giver taker ↔ IsJoinedBy inlets.now giver taker) }
-    ensures fault { IfFault result (λ f. ⊥) }
+fn list_joined(alloc: Global, inlets: &[Inlet]) -> Result<Vec<Edge>, NoMemory>
+    ensures { IfOk result (λ edges. (giver taker : ℕ) → Feeds edges.items giver taker ↔ IsJoinedBy inlets.now giver taker) }
 {
     let mut edges = Vec::new(alloc);
     'inlets: for inlet in inlets {
@@ -76,7 +75,7 @@ fn order_filters(alloc: Global, parts: &Parts, inlets: &[Inlet]) -> Result<Vec<u
     }
 }
 
-/// The input pads, in order, and where each takes from; and the pads by their labels.
+/// The pads by their labels, and the input pads, in order, with where each takes from.
 fn find_inlets<'a>(
     alloc: Global,
     parts: &Parts<'a, '_, '_>,
@@ -117,7 +116,7 @@ fn draft(alloc: Global, parts: &Parts, outputs: u32) -> Result<DraftPlan, PlanEr
 ///
 /// There are as many `pads` as calls: those of each call's filter. `inputs` says what each input file gives, and
 /// `outputs` is the number of output files, which counts among the links. Labels before a filter name its first input
-/// pads, labels behind it its first output pads. Equal labels on an output pad and an input pad make a link; in a
+/// pads, labels after it name its first output pads. Equal labels on an output pad and an input pad make a link; in a
 /// chain, the unlabelled output pads of a filter are linked to the unlabelled input pads of the next, in order. A label
 /// of input pads alone names an input file: `N`, `N:v`, `N:v:0`, `N:a` or `N:a:0`. At last each input pad that is still
 /// open, by filter and number, takes the first input file of its kind that nothing has taken. (FFmpeg Filters
@@ -125,8 +124,9 @@ fn draft(alloc: Global, parts: &Parts, outputs: u32) -> Result<DraftPlan, PlanEr
 ///
 /// There are fewer than 2^32 calls, output pads of a filter, and input files.
 ///
-/// Errors, in this rank: `TooManyLinks`, `PadCount`, `LabelTwice`, `UnknownInput`, `MediaMismatch`, `Cycle` and
-/// `OpenPad`, each of the least filter, and pad, at which it occurs. Or want of memory.
+/// # Errors
+/// The first of these that occurs: `TooManyLinks`, `PadCount`, `LabelTwice`, `UnknownInput`, `MediaMismatch`, `Cycle`,
+/// `OpenPad`, each at the lowest filter, and pad, at which it occurs. Or out of memory.
 pub fn link(
     alloc: Global,
     text: &GraphText,
@@ -137,10 +137,10 @@ pub fn link(
     requires { IsSmall (record { calls = text.now.calls; pads = pads.now; files = inputs.now }) }
     ensures draft { IfOk result (IsLinked (record { calls = text.now.calls; pads = pads.now; files = inputs.now }) outputs) }
     // What has a draft isn't refused, and has no other.
-    ensures links { (draft : DraftPlan) → IsLinked (record { calls = text.now.calls; pads = pads.now; files = inputs.now }) outputs draft → Gives draft result }
+    ensures links { (draft : DraftPlan) → IsLinked (record { calls = text.now.calls; pads = pads.now; files = inputs.now }) outputs draft → Gives (λ made. made ≡ draft) result }
     ensures fault { IfFault result (IsLinkFault (record { calls = text.now.calls; pads = pads.now; files = inputs.now }) outputs) }
     // What has a fault has no draft, and no other fault.
-    ensures faulty { (f : PlanFault) → IsLinkFault (record { calls = text.now.calls; pads = pads.now; files = inputs.now }) outputs f → Refuses f result }
+    ensures faulty { (f : PlanFault) → IsLinkFault (record { calls = text.now.calls; pads = pads.now; files = inputs.now }) outputs f → Refuses (λ found. found ≡ f) result }
 {
     let parts = Parts {
         calls: text.calls.as_slice(),

@@ -54,7 +54,7 @@ fn pads_of(rt: &impl Abort, alloc: Global, text: &GraphText) -> Result<List<Pads
     Ok(List::new(all))
 }
 
-/// The draft of a text, of files that give these kinds, and of so many outputs.
+/// The draft of a text, of files that give these kinds, and of this number of outputs.
 fn draft(
     rt: &impl Abort,
     alloc: Global,
@@ -129,7 +129,7 @@ const DRAWN: [(&str, &str, &str); 13] = [
         "v",
         "0>0.0 0.0>1.0 0.1>2.0 | 0 1 2; 1.0[c]v 2.0[d]v",
     ),
-    // A label names an output pad that is the next filter's no more.
+    // A label names an output pad, so that the next filter doesn't take it.
     (
         "split[a],null;[a]null",
         "v",

@@ -6,7 +6,6 @@ ghost use Rattle.graph_plan.specs.declared.plan.OpenOut.{OpenOut};
 ghost use Rattle.graph_text.specs.declared.graph.FilterCall.{FilterCall};
 ghost use Rattle.graph_plan.specs.declared.places.Place.{Place};
 ghost use Rattle.graph_plan.specs.declared.places.Side.TheVariants.{In, Out};
-ghost use Rattle.graph_plan.specs.Bindings.{IfFault};
 ghost use Rattle.graph_plan.specs.Graphs.{kind, pads_on, AreJoined};
 ghost use Rattle.graph_plan.specs.Links.{AreLeft, out_pad};
 ghost use Rattle.graph_plan.specs.Refusals.{IsOnOutput};
@@ -14,11 +13,11 @@ ghost use Rattle.graph_plan.specs.Joining.{graph_of, Notes, FitsTogether};
 
 use crate::labels::LabelTable;
 use crate::places::{Parts, Place, Side, kind_of, label_of, pad_places};
-use crate::plan::{OpenOut, PlanError};
-use av_base::{Media, Text};
+use crate::plan::OpenOut;
+use av_base::{Media, NoMemory, Text};
 use std::alloc::Global;
 
-/// Whether another filter stands behind one in its chain.
+/// Whether another filter comes after this one in its chain.
 fn is_followed(parts: &Parts, filter: usize) -> bool
     requires { filter < usize.MAX }
     ensures { IsTrue result ↔ ((first second : FilterCall) × (slice_get parts.now.calls.now filter ≡ Some first) × (slice_get parts.now.calls.now (filter + 1) ≡ Some second) × (first.chain ≡ second.chain)) }
@@ -42,10 +41,9 @@ fn is_taken(parts: &Parts, ins: &LabelTable, giver: Place) -> bool
     }
 }
 
-/// A label of its own for an output pad, if it has one.
-fn own_label(alloc: Global, name: Option<&str>) -> Result<Option<Text>, PlanError>
-    ensures label { IfOk result (λ own. own ≡ option_copied name.entry) }
-    ensures fault { IfFault result (λ f. ⊥) }
+/// A copy of an output pad's label, if it has one.
+fn own_label(alloc: Global, name: Option<&str>) -> Result<Option<Text>, NoMemory>
+    ensures { IfOk result (λ own. own ≡ option_copied name.entry) }
 {
     match name {
         Some(name) => Ok(Some(Text::new(String::from_str(alloc, name)?))),
@@ -60,9 +58,8 @@ fn push_open(
     parts: &Parts,
     giver: Place,
     media: Media,
-) -> Result<Vec<OpenOut>, PlanError>
-    ensures more { IfOk result (λ all. all.items ≡ opens.items ++ out_pad (graph_of parts.now) giver media ∷ []) }
-    ensures fault { IfFault result (λ f. ⊥) }
+) -> Result<Vec<OpenOut>, NoMemory>
+    ensures { IfOk result (λ all. all.items ≡ opens.items ++ out_pad (graph_of parts.now) giver media ∷ []) }
 {
     let label = own_label(alloc, label_of(parts, Side::Out, giver))?;
     opens.push(OpenOut {
@@ -81,12 +78,11 @@ fn push_left(
     parts: &Parts,
     ins: &LabelTable,
     giver: Place,
-) -> Result<Vec<OpenOut>, PlanError>
+) -> Result<Vec<OpenOut>, NoMemory>
     requires fit { FitsTogether (graph_of parts.now) }
     requires ins { Notes (graph_of parts.now) In (IsOnOutput (graph_of parts.now)) ins.now }
     requires there { (gives : Media) × (kind (graph_of parts.now) Out giver.filter giver.pad ≡ Some gives) }
-    ensures more { IfOk result (λ all. (more : List OpenOut) × (all.items ≡ opens.items ++ more) × AreLeft (graph_of parts.now) (giver ∷ []) more) }
-    ensures fault { IfFault result (λ f. ⊥) }
+    ensures { IfOk result (λ all. (more : List OpenOut) × (all.items ≡ opens.items ++ more) × AreLeft (graph_of parts.now) (giver ∷ []) more) }
 {
     let Some(media) = kind_of(parts, Side::Out, giver) else {
         return Ok(opens);
@@ -94,8 +90,7 @@ fn push_left(
     if is_taken(parts, ins, giver) {
         return Ok(opens);
     }
-    let opens = push_open(opens, alloc, parts, giver, media)?;
-    Ok(opens)
+    push_open(opens, alloc, parts, giver, media)
 }
 
 /// The output pads that no filter takes, in order.
@@ -103,11 +98,10 @@ pub(crate) fn list_opens(
     alloc: Global,
     parts: &Parts,
     ins: &LabelTable,
-) -> Result<Vec<OpenOut>, PlanError>
+) -> Result<Vec<OpenOut>, NoMemory>
     requires fit { FitsTogether (graph_of parts.now) }
     requires ins { Notes (graph_of parts.now) In (IsOnOutput (graph_of parts.now)) ins.now }
-    ensures opens { IfOk result (λ opens. AreLeft (graph_of parts.now) (pads_on (graph_of parts.now) Out) opens.items) }
-    ensures fault { IfFault result (λ f. ⊥) }
+    ensures { IfOk result (λ opens. AreLeft (graph_of parts.now) (pads_on (graph_of parts.now) Out) opens.items) }
 {
     let mut opens = Vec::new(alloc);
     let places = pad_places(alloc, parts.pads, Side::Out)?;

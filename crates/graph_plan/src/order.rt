@@ -4,7 +4,7 @@ ghost use Rattle.std.specs.BTreeMap.Range.{IsLtBy};
 ghost use Rattle.std.specs.List.{All, Contains, count_by};
 ghost use Rattle.std.specs.Ordering.{nat_cmp};
 ghost use Rattle.graph_plan.specs.Orders.{AreBelow, Feeds, Reaches};
-ghost use Rattle.graph_plan.specs.Least.{IsLeast};
+ghost use Rattle.av_base.specs.First.{IsFirst};
 ghost use Rattle.graph_plan.specs.declared.order.Arranged.TheVariants.{Cycle};
 ghost use Rattle.graph_plan.specs.Arranging.{AreAdded, AreMarked, AreNeighbours, AreRows, Has, HasAll, IsAlong, IsArranged, IsBelow, IsMarked, Joins};
 
@@ -13,14 +13,14 @@ use av_base::NoMemory;
 use std::alloc::Global;
 use std::collections::BTreeSet;
 
-/// The order of filters, or the least one that reaches itself over links.
+/// The order of filters, or the lowest one that reaches itself over links.
 #[derive(Drop)]
 pub(crate) enum Arranged {
-    /// Each filter behind those that it takes from.
+    /// Each filter after those that it takes from.
     Order(Vec<u32>),
     /// A filter reaches itself.
     Cycle {
-        /// The least such filter.
+        /// The lowest such filter.
         filter: u32,
     },
 }
@@ -46,7 +46,7 @@ struct Neighbours {
     takers: Vec<Vec<u32>>,
 }
 
-/// So many rows without an item.
+/// `count` empty rows.
 fn empty_rows(alloc: Global, count: u32) -> Result<Vec<Vec<u32>>, NoMemory>
     ensures each { IfOk result (λ rows. length rows.items ≡ count) }
     ensures none { IfOk result (λ rows. (number item : ℕ) → Has rows.items number item → ⊥) }
@@ -81,11 +81,10 @@ fn note_link(neighbours: &mut Neighbours, link: &Edge) -> Result<(), NoMemory>
         return Ok(());
     };
     note(&mut neighbours.givers, taker, giver)?;
-    note(&mut neighbours.takers, giver, taker)?;
-    Ok(())
+    note(&mut neighbours.takers, giver, taker)
 }
 
-/// The neighbours of so many filters by the links between them.
+/// The neighbours of `count` filters by the links between them.
 fn list_neighbours(alloc: Global, links: &[Edge], count: u32) -> Result<Neighbours, NoMemory>
     requires { AreBelow (Feeds links.now) count }
     ensures { IfOk result (AreNeighbours (Feeds links.now) count) }
@@ -114,8 +113,7 @@ fn mark_all(marks: &mut [bool], stack: &mut Vec<u32>, filters: &[u32]) -> Result
     Ok(())
 }
 
-/// Whether a filter reaches itself, by the rows of those that each gives to. The marks and the stack are room to work
-/// in.
+/// Whether a filter reaches itself, by the rows of those that each gives to. The marks and the stack are scratch space.
 fn reaches_itself(
     takers: &[Vec<u32>],
     filter: u32,
@@ -138,12 +136,12 @@ fn reaches_itself(
     Ok(false)
 }
 
-/// The least filter that reaches itself. The marks are room to work in.
-fn least_cycle(alloc: Global, takers: &[Vec<u32>], marks: &mut [bool]) -> Result<u32, NoMemory>
+/// The lowest filter that reaches itself. The marks are scratch space.
+fn lowest_cycle(alloc: Global, takers: &[Vec<u32>], marks: &mut [bool]) -> Result<u32, NoMemory>
     requires rows { AreRows (length marks.old) (length marks.old) takers.now }
     requires count { length marks.old < 2 ^ 32 }
     requires some { ((filter : ℕ) → Reaches (Has takers.now) filter filter → ⊥) → ⊥ }
-    ensures { IfOk result (IsLeast (λ f. Reaches (Has takers.now) f f)) }
+    ensures { IfOk result (IsFirst (λ f. Reaches (Has takers.now) f f)) }
 {
     let mut filter = 0;
     let mut stack = Vec::new(alloc);
@@ -210,7 +208,7 @@ fn look_at_all(
     Ok(())
 }
 
-/// An order of so many filters that hasn't begun.
+/// An order of `count` filters that hasn't begun.
 fn begin(alloc: Global, givers: &[Vec<u32>], count: u32) -> Result<Progress, NoMemory>
     requires { AreRows count count givers.now }
     ensures along { IfOk result (IsAlong givers.now) }
@@ -240,35 +238,33 @@ fn complete(neighbours: &Neighbours, progress: &mut Progress, filter: u32) -> Re
 {
     progress.done[filter as usize] = true;
     let takers = neighbours.takers[filter as usize].as_slice();
-    look_at_all(&neighbours.givers, progress, takers)?;
-    Ok(())
+    look_at_all(&neighbours.givers, progress, takers)
 }
 
-/// The least of so many filters that reaches itself, by the rows of those that each gives to.
+/// The lowest of `count` filters that reaches itself, by the rows of those that each gives to.
 fn name_cycle(alloc: Global, takers: &[Vec<u32>], count: u32) -> Result<Arranged, NoMemory>
     requires rows { AreRows count count takers.now }
     requires some { ((filter : ℕ) → Reaches (Has takers.now) filter filter → ⊥) → ⊥ }
-    ensures { IfOk result (λ a. (filter : ℕ) × (a ≡ Cycle filter) × IsLeast (λ f. Reaches (Has takers.now) f f) filter) }
+    ensures { IfOk result (λ a. (filter : ℕ) × (a ≡ Cycle filter) × IsFirst (λ f. Reaches (Has takers.now) f f) filter) }
 {
     let mut marks = vec![in alloc; false; count as usize]?;
-    let filter = least_cycle(alloc, takers, &mut marks)?;
+    let filter = lowest_cycle(alloc, takers, &mut marks)?;
     Ok(Arranged::Cycle { filter })
 }
 
-/// Takes the least of the filters that can come.
-fn take_least(ready: &mut BTreeSet<u32>) -> Option<u32>
+/// Takes the lowest of the filters that can come.
+fn take_lowest(ready: &mut BTreeSet<u32>) -> Option<u32>
     ensures some { IsSome result ↔ (0 < length ready.old.keys) }
     ensures taken { IfSome result (λ f. ready.old.keys ≡ f ∷ ready.new.keys) }
-    ensures least { IfSome result (λ f. All (IsLtBy nat_cmp f) ready.new.keys) }
+    ensures lowest { IfSome result (λ f. All (IsLtBy nat_cmp f) ready.new.keys) }
 {
     ready.pop_first()
 }
 
-/// Arranges so many filters by the links between them.
+/// Arranges `count` filters by the links between them.
 ///
 /// # Errors
-///
-/// Want of memory.
+/// Out of memory.
 pub(crate) fn arrange(alloc: Global, links: &[Edge], count: u32) -> Result<Arranged, NoMemory>
     requires { AreBelow (Feeds links.now) count }
     ensures { IfOk result (IsArranged links.now count) }
@@ -277,9 +273,8 @@ pub(crate) fn arrange(alloc: Global, links: &[Edge], count: u32) -> Result<Arran
     let mut progress = begin(alloc, &neighbours.givers, count)?;
     let mut order = Vec::new(alloc);
     'filters: for _ in 0..count {
-        let Some(filter) = take_least(&mut progress.ready) else {
-            let cycle = name_cycle(alloc, &neighbours.takers, count)?;
-            return Ok(cycle);
+        let Some(filter) = take_lowest(&mut progress.ready) else {
+            return name_cycle(alloc, &neighbours.takers, count);
         };
         order.push(filter)?;
         complete(&neighbours, &mut progress, filter)?;

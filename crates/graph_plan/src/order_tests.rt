@@ -42,7 +42,7 @@ fn sink(giver: u32) -> Edge {
     }
 }
 
-/// Whether a link leads between so many filters.
+/// Whether a link leads only to and from the first `count` filters.
 fn is_below(link: &Edge, count: u32) -> bool
     ensures { IsTrue result → IsBelow link.now count }
 {
@@ -52,7 +52,7 @@ fn is_below(link: &Edge, count: u32) -> bool
     }
 }
 
-/// Whether all links lead between so many filters.
+/// Whether all links lead only to and from the first `count` filters.
 fn are_below(links: &[Edge], count: u32) -> bool
     ensures { IsTrue result → AreBelow (Feeds links.now) count }
 {
@@ -78,19 +78,19 @@ fn has_order(alloc: Global, links: &[Edge], order: &[u32]) -> bool
     }
 }
 
-/// Whether this is the least of so many filters that reaches itself.
-fn has_cycle(alloc: Global, links: &[Edge], count: u32, least: u32) -> bool {
+/// Whether this is the lowest of `count` filters that reaches itself.
+fn has_cycle(alloc: Global, links: &[Edge], count: u32, lowest: u32) -> bool {
     if !are_below(links, count) {
         return false;
     }
     match arrange(alloc, links, count) {
-        Ok(Arranged::Cycle { filter }) => filter == least,
+        Ok(Arranged::Cycle { filter }) => filter == lowest,
         _ => false,
     }
 }
 
 #[test]
-fn filters_come_behind_those_that_they_take_from(rt: HostRuntime) {
+fn filters_come_after_those_that_they_take_from(rt: HostRuntime) {
     assert!(rt; has_order(rt.alloc(), &[], &[]));
     assert!(rt; has_order(rt.alloc(), &[], &[0, 1, 2]));
     assert!(rt; has_order(rt.alloc(), &[link(2, 1), link(1, 0)], &[2, 1, 0]));
@@ -108,7 +108,7 @@ fn links_of_files_hold_nothing_back(rt: HostRuntime) {
 }
 
 #[test]
-fn the_least_filter_of_a_cycle_is_named(rt: HostRuntime) {
+fn the_lowest_filter_of_a_cycle_is_named(rt: HostRuntime) {
     assert!(rt; has_cycle(rt.alloc(), &[link(0, 0)], 1, 0));
     assert!(rt; has_cycle(rt.alloc(), &[link(2, 1), link(1, 2)], 3, 1));
     assert!(rt; has_cycle(rt.alloc(), &[link(0, 1), link(1, 2), link(2, 1)], 3, 1));

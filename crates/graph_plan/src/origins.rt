@@ -5,8 +5,8 @@ ghost use Rattle.av_base.specs.declared.formats.Media.{Media};
 ghost use Rattle.graph_plan.specs.declared.places.Place.{Place};
 ghost use Rattle.graph_plan.specs.declared.places.Side.TheVariants.{In, Out};
 ghost use Rattle.graph_plan.specs.declared.origins.Origin.TheVariants.{File};
-ghost use Rattle.graph_plan.specs.Bindings.{IfFault};
-ghost use Rattle.graph_plan.specs.Least.{Never};
+ghost use Rattle.av_base.specs.Failures.{IfFault};
+ghost use Rattle.av_base.specs.First.{Never};
 ghost use Rattle.graph_plan.specs.Graphs.{AreNeighbours, SaysFile, SaysKind};
 ghost use Rattle.graph_plan.specs.Refusals.{HasTooMany, HasUnknownInput, HasMismatch, IsLinkFault, IsSmall};
 ghost use Rattle.graph_plan.specs.Joining.{graph_of, Notes, IsUnknown, IsOriginOf, IsInlet, AreInlets, Differ, IsMismatched, FitsTogether};
@@ -43,7 +43,7 @@ pub(crate) struct Inlet {
     pub(crate) origin: Origin,
 }
 
-/// What stands behind the number of a file says that it gives; none where it says something else.
+/// What the text after the number of a file says that the file gives. `None` if it says something else.
 fn read_kind(text: &str) -> Option<Option<Media>>
     ensures said { IfSome result (SaysKind text.now) }
     ensures only { (said : Option Media) → SaysKind text.now said → result ≡ Some said }
@@ -61,21 +61,19 @@ fn read_file(name: &str) -> Option<(u32, Option<Media>)>
     ensures said { IfSome result (λ p. SaysFile name.now p.0 p.1) }
     ensures only { (file : ℕ) (said : Option Media) → SaysFile name.now file said → result ≡ Some (file, said) }
 {
-    let (digits, behind) = split_run(name, Class::Digit);
+    let (digits, suffix) = split_run(name, Class::Digit);
     let file = read_digits(digits, 1, 4)?;
-    let said = read_kind(behind)?;
+    let said = read_kind(suffix)?;
     Some((file as u32, said))
 }
 
-/// The file that a label names, where there is one.
+/// The file that a label names, if it names one.
 fn named_file(parts: &Parts, name: &str) -> Option<Origin>
     ensures { MatchOption result
         ((file : ℕ) (said : Option Media) → SaysFile name.now file said → ¬ (file < length parts.now.files.now))
         (λ o. (file : ℕ) × (said : Option Media) × (o ≡ File file said) × SaysFile name.now file said × (file < length parts.now.files.now)) }
 {
-    let Some((file, said)) = read_file(name) else {
-        return None;
-    };
+    let (file, said) = read_file(name)?;
     if (file as usize) < parts.files.len() {
         Some(Origin::File { file, said })
     } else {
@@ -83,7 +81,7 @@ fn named_file(parts: &Parts, name: &str) -> Option<Origin>
     }
 }
 
-/// The output pad of the filter before that gives to an unlabelled input pad, in its chain.
+/// The output pad of the filter before it in its chain that gives to an unlabelled input pad.
 fn neighbour(parts: &Parts, taker: Place) -> Option<Place>
     requires { IsSmall (graph_of parts.now) }
     ensures { MatchOption result
@@ -104,7 +102,7 @@ fn neighbour(parts: &Parts, taker: Place) -> Option<Place>
     Some(giver)
 }
 
-/// Where an input pad takes from; none where its label says nothing.
+/// Where an input pad takes from. `None` if its label names neither a pad nor a file.
 fn find_origin(parts: &Parts, outs: &LabelTable, taker: Place) -> Option<Origin>
     requires small { IsSmall (graph_of parts.now) }
     requires outs { Notes (graph_of parts.now) Out (λ name. Unit {0}) outs.now }
@@ -164,18 +162,18 @@ fn kind_of_file(parts: &Parts, file: u32) -> Option<Media>
     parts.files.get(file as usize).copied()
 }
 
-/// Whether an input pad takes what it doesn't want, or not what its label says.
+/// Whether an input pad gets another kind than its own, or than its label says.
 fn is_mismatched(parts: &Parts, inlet: &Inlet) -> bool
     requires inlet { IsInlet (graph_of parts.now) inlet.now }
     requires fit { FitsTogether (graph_of parts.now) }
     ensures { IsTrue result ↔ IsMismatched (graph_of parts.now) inlet.now.taker }
 {
-    let wants = kind_of(parts, Side::In, inlet.taker);
+    let takes = kind_of(parts, Side::In, inlet.taker);
     match inlet.origin {
-        Origin::Pad(giver) => differ(kind_of(parts, Side::Out, giver), wants),
+        Origin::Pad(giver) => differ(kind_of(parts, Side::Out, giver), takes),
         Origin::File { file, said } => {
             let gives = kind_of_file(parts, file);
-            differ(gives, wants) || differ(gives, said)
+            differ(gives, takes) || differ(gives, said)
         }
         Origin::Open => false,
     }

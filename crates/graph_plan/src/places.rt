@@ -2,11 +2,10 @@
 ghost use Rattle.std.specs.Prelude.{◌≡◌, ◌<◌, ◌≤◌, ◌^◌, ◌++◌, ℕ, Some, None, length, IfOk, MatchOption, option_copied};
 ghost use Rattle.std.specs.List.{slice_get};
 ghost use Rattle.graph_plan.specs.Graphs.{item, labels, kinds, label, kind, places, places_of, pads_on};
-ghost use Rattle.graph_plan.specs.Bindings.{IfFault};
 ghost use Rattle.graph_plan.specs.Joining.{graph_of};
 
-use crate::plan::{Pads, PlanError};
-use av_base::{List, Media, Text};
+use crate::plan::Pads;
+use av_base::{List, Media, NoMemory, Text};
 use graph_text::FilterCall;
 use std::alloc::Global;
 
@@ -39,7 +38,7 @@ pub(crate) struct Parts<'t, 'p, 'f> {
     pub(crate) files: &'f [Media],
 }
 
-/// The labels of a call, before its name or behind it.
+/// The labels of a call, before its name or after it.
 pub(crate) fn labels(call: &FilterCall, side: Side) -> &[Text]
     ensures { result.now ≡ labels side call.now }
 {
@@ -78,11 +77,10 @@ pub(crate) fn kind_of(parts: &Parts, side: Side, place: Place) -> Option<Media>
     kinds(pads, side).get(place.pad as usize).copied()
 }
 
-/// Adds so many places of a filter.
-fn push_places(mut places: Vec<Place>, filter: u32, count: usize) -> Result<Vec<Place>, PlanError>
+/// Adds the first `count` places of a filter.
+fn push_places(mut places: Vec<Place>, filter: u32, count: usize) -> Result<Vec<Place>, NoMemory>
     requires { count ≤ 2 ^ 32 }
-    ensures places { IfOk result (λ all. all.items ≡ places.items ++ places_of filter 0 count) }
-    ensures fault { IfFault result (λ f. ⊥) }
+    ensures { IfOk result (λ all. all.items ≡ places.items ++ places_of filter 0 count) }
 {
     'pads: for pad in 0..count {
         let pad = pad as u32;
@@ -96,11 +94,10 @@ pub(crate) fn label_places(
     alloc: Global,
     calls: &[FilterCall],
     side: Side,
-) -> Result<Vec<Place>, PlanError>
+) -> Result<Vec<Place>, NoMemory>
     requires calls { length calls.now ≤ 2 ^ 32 }
     requires each { (k : ℕ) (call : FilterCall) → slice_get calls.now k ≡ Some call → length (labels side call) ≤ 2 ^ 32 }
-    ensures places { IfOk result (λ all. all.items ≡ places (λ (c : FilterCall). length (labels side c)) 0 calls.now) }
-    ensures fault { IfFault result (λ f. ⊥) }
+    ensures { IfOk result (λ all. all.items ≡ places (λ (c : FilterCall). length (labels side c)) 0 calls.now) }
 {
     let mut places = Vec::new(alloc);
     'calls: for (filter, call) in calls.iter().enumerate() {
@@ -110,11 +107,10 @@ pub(crate) fn label_places(
 }
 
 /// The places of all pads of a side, in order.
-pub(crate) fn pad_places(alloc: Global, pads: &[Pads], side: Side) -> Result<Vec<Place>, PlanError>
+pub(crate) fn pad_places(alloc: Global, pads: &[Pads], side: Side) -> Result<Vec<Place>, NoMemory>
     requires filters { length pads.now ≤ 2 ^ 32 }
     requires each { (k : ℕ) (p : Pads) → slice_get pads.now k ≡ Some p → length (kinds side p) ≤ 2 ^ 32 }
-    ensures places { IfOk result (λ all. all.items ≡ places (λ (p : Pads). length (kinds side p)) 0 pads.now) }
-    ensures fault { IfFault result (λ f. ⊥) }
+    ensures { IfOk result (λ all. all.items ≡ places (λ (p : Pads). length (kinds side p)) 0 pads.now) }
 {
     let mut places = Vec::new(alloc);
     'filters: for (filter, of_filter) in pads.iter().enumerate() {

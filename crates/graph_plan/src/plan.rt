@@ -1,6 +1,5 @@
 //! The parts of a plan.
-use av_base::{List, Media, NoMemory, Text};
-use std::alloc::{AllocError, AllocFailed};
+use av_base::{Failure, List, Media, Text};
 
 /// What the pads of a call's filter take and give, by their numbers.
 #[derive(Drop)]
@@ -61,7 +60,7 @@ pub struct OpenOut {
     pub filter: u32,
     /// The pad's number, counted from 0.
     pub pad: u32,
-    /// The label behind the filter that names the pad, if one does.
+    /// The label after the filter's name that names the pad, if there is one.
     pub label: Option<Text>,
     /// What the pad gives.
     pub media: Media,
@@ -72,7 +71,7 @@ pub struct OpenOut {
 pub struct DraftPlan {
     /// The links to input pads, by filter and pad.
     pub links: List<Edge>,
-    /// The filters, each behind those that it takes from.
+    /// The filters, each after those that it takes from.
     pub order: List<u32>,
     /// The output pads that no filter takes, by filter and pad.
     pub opens: List<OpenOut>,
@@ -83,7 +82,7 @@ pub struct DraftPlan {
 pub struct Plan {
     /// The links, by their targets: input pads by filter and pad, then outputs.
     pub links: List<Edge>,
-    /// The filters, each behind those that it takes from.
+    /// The filters, each after those that it takes from.
     pub order: List<u32>,
 }
 
@@ -115,27 +114,27 @@ pub enum PlanFault {
     /// A filter has more labels than pads, or fewer unlabelled input pads than the filter before it in its chain has
     /// unlabelled output pads.
     PadCount {
-        /// The least such filter.
+        /// The lowest such filter.
         filter: u32,
     },
-    /// A label stands on an output pad and on an earlier one, or on an output pad and on two input pads.
+    /// A label is on two output pads, or on an output pad and on two input pads.
     LabelTwice {
-        /// The least filter of such a pad that isn't the first.
+        /// The lowest filter with such a pad after the first one.
         filter: u32,
     },
-    /// The label of an input pad stands on no output pad and names no input file.
+    /// The label of an input pad is on no output pad and names no input file.
     UnknownInput {
-        /// The least filter of such a pad.
+        /// The lowest filter with such a pad.
         filter: u32,
     },
     /// A link's two ends differ in kind, or a label's `:v` or `:a` differs from its file's.
     MediaMismatch {
-        /// The least filter that such a link leads to.
+        /// The lowest filter that such a link leads to.
         filter: u32,
     },
     /// A filter reaches itself over links.
     Cycle {
-        /// The least such filter.
+        /// The lowest such filter.
         filter: u32,
     },
     /// An input pad without a label, to which no filter gives, finds no input file.
@@ -147,7 +146,7 @@ pub enum PlanFault {
     },
     /// An output file finds no open output pad, or one that an earlier file took by its label.
     NoSuchOutput {
-        /// The least such output.
+        /// The lowest such output.
         output: u32,
     },
     /// An open output pad is taken by no output file.
@@ -159,49 +158,10 @@ pub enum PlanFault {
     },
     /// A Y4M file takes audio, or a WAV file video.
     WrongKind {
-        /// The least such output.
+        /// The lowest such output.
         output: u32,
     },
 }
 
 /// Why no plan was given.
-#[derive(Clone, Copy, Debug, PartialEq, Eq)]
-pub enum PlanError {
-    /// There is none.
-    Fault(PlanFault),
-    /// Want of memory.
-    NoMemory,
-}
-
-impl From<AllocError> for PlanError {
-    ghost use Rattle.std.specs.Prelude.{◌≡◌};
-    ghost use Rattle.graph_plan.specs.declared.plan.PlanError.TheVariants.{NoMemory};
-
-    ghost from_gives = { λ _ e. e ≡ NoMemory };
-
-    fn from(_refused: AllocError) -> PlanError {
-        PlanError::NoMemory
-    }
-}
-
-impl<T: Drop> From<AllocFailed<T>> for PlanError {
-    ghost use Rattle.std.specs.Prelude.{◌≡◌};
-    ghost use Rattle.graph_plan.specs.declared.plan.PlanError.TheVariants.{NoMemory};
-
-    ghost from_gives = { λ _ e. e ≡ NoMemory };
-
-    fn from(_refused: AllocFailed<T>) -> PlanError {
-        PlanError::NoMemory
-    }
-}
-
-impl From<NoMemory> for PlanError {
-    ghost use Rattle.std.specs.Prelude.{◌≡◌};
-    ghost use Rattle.graph_plan.specs.declared.plan.PlanError.TheVariants.{NoMemory};
-
-    ghost from_gives = { λ _ e. e ≡ NoMemory };
-
-    fn from(_refused: NoMemory) -> PlanError {
-        PlanError::NoMemory
-    }
-}
+pub type PlanError = Failure<PlanFault>;

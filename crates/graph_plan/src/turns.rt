@@ -7,8 +7,8 @@ ghost use Rattle.graph_plan.specs.declared.plan.Source.{Source};
 ghost use Rattle.graph_plan.specs.declared.places.Side.TheVariants.{In, Out};
 ghost use Rattle.graph_plan.specs.declared.plan.Source.TheVariants.{Input};
 ghost use Rattle.graph_plan.specs.declared.origins.Origin.TheVariants.{File};
-ghost use Rattle.graph_plan.specs.Bindings.{IfFault};
-ghost use Rattle.graph_plan.specs.Least.{IsLeast, Never};
+ghost use Rattle.av_base.specs.Failures.{IfFault};
+ghost use Rattle.av_base.specs.First.{IsFirst, Never};
 ghost use Rattle.graph_plan.specs.Graphs.{kind, pads_on, IsOpen};
 ghost use Rattle.graph_plan.specs.Links.{AreLinks, IsLeft, IsOrigin};
 ghost use Rattle.graph_plan.specs.Refusals.{HasCycle, IsLinkFault, IsSmall, IsSound};
@@ -17,7 +17,7 @@ ghost use Rattle.graph_plan.specs.Joining.{graph_of, AreInlets, AreTaken, IsInle
 use crate::origins::{Inlet, Origin};
 use crate::places::{Parts, Place, Side, kind_of};
 use crate::plan::{Edge, PlanError, PlanFault, Source, Target};
-use av_base::Media;
+use av_base::{Media, NoMemory};
 use std::alloc::Global;
 
 /// Marks a file, if one is given.
@@ -42,12 +42,11 @@ fn named_by(inlet: &Inlet) -> Option<u32>
     }
 }
 
-/// Which of so many files labels name.
-fn mark_named(alloc: Global, inlets: &[Inlet], count: usize) -> Result<Vec<bool>, PlanError>
+/// Which of the first `count` files labels name.
+fn mark_named(alloc: Global, inlets: &[Inlet], count: usize) -> Result<Vec<bool>, NoMemory>
     requires { (file : ℕ) → IsNamedBy inlets.now file → file < count }
     ensures each { IfOk result (λ taken. length taken.items ≡ count) }
     ensures marked { IfOk result (λ taken. (file : ℕ) → (slice_index_or taken.items file false ≡ true) ↔ IsNamedBy inlets.now file) }
-    ensures fault { IfFault result (λ f. ⊥) }
 {
     let mut taken = vec![in alloc; false; count]?;
     'inlets: for inlet in inlets {
@@ -68,7 +67,7 @@ fn is_left(files: &[Media], taken: &[bool], wanted: Media, file: usize) -> bool
 /// The first file of a kind that isn't taken.
 fn first_file(files: &[Media], taken: &[bool], wanted: Media) -> Option<usize>
     requires { length taken.now ≡ length files.now }
-    ensures left { IfSome result (IsLeast (λ k. (slice_get files.now k ≡ Some wanted) × (slice_index_or taken.now k false ≡ false))) }
+    ensures left { IfSome result (IsFirst (λ k. (slice_get files.now k ≡ Some wanted) × (slice_index_or taken.now k false ≡ false))) }
     ensures none { IsNone result → Never (λ k. (slice_get files.now k ≡ Some wanted) × (slice_index_or taken.now k false ≡ false)) }
 {
     'files: for file in 0..files.len() {
@@ -79,7 +78,7 @@ fn first_file(files: &[Media], taken: &[bool], wanted: Media) -> Option<usize>
     None
 }
 
-/// Where an input pad takes from; none where it is open and no file of its kind is left.
+/// Where an input pad takes from. `None` if it is open and no file of its kind is left.
 fn source_of(parts: &Parts, inlet: &Inlet, taken: &[bool]) -> Option<Source>
     requires small { IsSmall (graph_of parts.now) }
     requires inlet { IsInlet (graph_of parts.now) inlet.now }
@@ -94,9 +93,7 @@ fn source_of(parts: &Parts, inlet: &Inlet, taken: &[bool]) -> Option<Source>
         Origin::File { file, .. } => Some(Source::Input { input: file }),
         Origin::Open => {
             let wanted = kind_of(parts, Side::In, inlet.taker)?;
-            let Some(file) = first_file(parts.files, taken, wanted) else {
-                return None;
-            };
+            let file = first_file(parts.files, taken, wanted)?;
             Some(Source::Input { input: file as u32 })
         }
     }

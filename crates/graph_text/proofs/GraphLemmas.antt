@@ -4,13 +4,12 @@ use Rattle.std.specs.Str.{IsUtf8, IsCharBoundary}
 use Rattle.std.specs.List.{Contains}
 use Rattle.std.proofs.lemmas.List.{append-nil, drop-drop, drop_more, length-drop, append_cancel_left}
 use Rattle.std.proofs.lemmas.Str.{IsCharBoundary-after_ascii}
-use Rattle.av_text.proofs.ArgLemmas.{fault_handed, error_gives, error_refuses}
-use Rattle.av_text.specs.declared.fault.TextError.{TextError}
+use Rattle.av_base.specs.declared.failure.Failure.{Failure}
 use Rattle.graph_text.specs.declared.graph.GraphText.{GraphText}
 use Rattle.std.proofs.lemmas.List.Elements.{Contains-append_right}
-use Rattle.av_text.specs.Faults.{IsFaultAt, IfFault, Gives, Refuses}
+use Rattle.av_text.specs.Faults.{IsFaultAt}
 use Rattle.av_text.specs.declared.fault.TextFault.{TextFault}
-use Rattle.av_text.proofs.ReadingLemmas.{cons_parts, mark_unique}
+use Rattle.av_text.proofs.ReadingLemmas.{mark_unique}
 use Rattle.av_text.specs.declared.fault.TextKind.{TextKind}
 use Rattle.av_text.specs.declared.fault.TextKind.TheVariants.{Stray}
 use Rattle.graph_text.specs.Grammar.{IsFilter, NoFilter}
@@ -20,10 +19,13 @@ use Rattle.av_text.proofs.Places.{skip_same}
 use Rattle.graph_text.proofs.PartLemmas.{filter_same, filter_fault, filter_apart}
 use Rattle.graph_text.specs.Reading.{IsNext}
 use Rattle.graph_text.specs.declared.graph.FilterCall.{FilterCall}
+use Rattle.av_base.proofs.Lists.{cons_parts}
+use Rattle.av_base.specs.Failures.{IfFault, Gives, Refuses}
+use Rattle.av_base.proofs.FailureLemmas.{fault_passed, error_gives, error_refuses}
 
 -- ---- the calls so far
 
--- calls were read up to a place, at which a filter of this chain must stand: whatever stands there completes them
+-- calls were read up to a place, at which a filter of this chain must be: whatever is there completes them
 pub record Called (text : List ℕ) (start : ℕ) (calls : List FilterCall) (chain place : ℕ) : Type 0 where
   pub boundary : IsCharBoundary text place
   pub few : chain ≤ place
@@ -33,9 +35,9 @@ pub record Called (text : List ℕ) (start : ℕ) (calls : List FilterCall) (cha
 pub called_none : (text : List ℕ) (start : ℕ) → IsCharBoundary text start → Called text start [] 0 start
 called_none text start b = record { boundary = b; few = omega arith; reads = λ more h. h; fails = λ more kind bad h. h }
 
--- the place behind a mark
-behind_mark : (text more : List ℕ) (end mark : ℕ) → drop end text ≡ mark ∷ more → drop (end + 1) text ≡ more
-behind_mark text more end mark e = sym (drop-drop 1 end text) ∙ ap (drop 1) e
+-- the place after a mark
+after_mark : (text more : List ℕ) (end mark : ℕ) → drop end text ≡ mark ∷ more → drop (end + 1) text ≡ more
+after_mark text more end mark e = sym (drop-drop 1 end text) ∙ ap (drop 1) e
 
 pub called_more : {text : List ℕ} {start : ℕ} {calls : List FilterCall} {chain place : ℕ} (call : FilterCall) (end next : ℕ) → Called text start calls chain place
     → IsFilter (length text) chain (drop place text) call (drop end text) → place ≤ end → IsCharBoundary text (end + 1) → IsNext (drop end text) chain (Some next) → Called text start (calls ++ call ∷ []) next (end + 1)
@@ -52,18 +54,18 @@ called_more {text} {start} {calls} {chain} {place} call end next l h later b n =
   follows : (more : List FilterCall) → AreCalls (length text) next (drop (end + 1) text) more
       → ((rest : List ℕ) × (drop end text ≡ 44 ∷ rest) × AreCalls (length text) chain rest more) ⊎ ((rest : List ℕ) × (drop end text ≡ 59 ∷ rest) × AreCalls (length text) (chain + 1) rest more)
   follows more are = elim n.1 [
-    | inl same ↦ inl (n.0, same.0, rw (same.1, behind_mark text n.0 end 44 same.0) at are)
-    | inr on ↦ inr (n.0, on.0, rw (on.1, behind_mark text n.0 end 59 on.0) at are)
+    | inl same ↦ inl (n.0, same.0, rw (same.1, after_mark text n.0 end 44 same.0) at are)
+    | inr on ↦ inr (n.0, on.0, rw (on.1, after_mark text n.0 end 59 on.0) at are)
   ]
 
   failing : (more : List FilterCall) (kind : TextKind) (bad : List ℕ) → CallsFail (length text) next (drop (end + 1) text) more kind bad
       → ((drop end text ≡ 44 ∷ n.0) × CallsFail (length text) chain n.0 more kind bad) ⊎ ((drop end text ≡ 59 ∷ n.0) × CallsFail (length text) (chain + 1) n.0 more kind bad)
   failing more kind bad are = elim n.1 [
-    | inl same ↦ inl (same.0, rw (same.1, behind_mark text n.0 end 44 same.0) at are)
-    | inr on ↦ inr (on.0, rw (on.1, behind_mark text n.0 end 59 on.0) at are)
+    | inl same ↦ inl (same.0, rw (same.1, after_mark text n.0 end 44 same.0) at are)
+    | inr on ↦ inr (on.0, rw (on.1, after_mark text n.0 end 59 on.0) at are)
   ]
 
--- a filter, and the end behind it
+-- a filter, and the end after it
 pub called_all : {text : List ℕ} {start : ℕ} {calls : List FilterCall} {chain place : ℕ} (call : FilterCall) (end : ℕ) → Called text start calls chain place
     → IsFilter (length text) chain (drop place text) call (drop end text) → drop end text ≡ [] → AreCalls (length text) 0 (drop start text) (calls ++ call ∷ [])
 called_all {text} {start} {calls} {chain} {place} call end l h over = l.reads (call ∷ []) (drop end text, h, inl (over, refl))
@@ -73,7 +75,7 @@ pub called_fault : {text : List ℕ} {start : ℕ} {calls : List FilterCall} {ch
     → NoFilter (drop place text) kind bad → CallsFail (length text) 0 (drop start text) calls kind bad
 called_fault {text} {start} {calls} {chain} {place} kind bad l h = rw append-nil at (l.fails [] kind bad (inl h))
 
--- a filter, and something else behind it
+-- a filter, and something else after it
 pub called_stray : {text : List ℕ} {start : ℕ} {calls : List FilterCall} {chain place : ℕ} (call : FilterCall) (end : ℕ) → Called text start calls chain place
     → IsFilter (length text) chain (drop place text) call (drop end text) → IsStray (drop end text) → CallsFail (length text) 0 (drop start text) calls Stray (drop end text)
 called_stray {text} {start} {calls} {chain} {place} call end l h stray = rw append-nil at (l.fails [] Stray (drop end text) (inr (call, h, stray, refl)))
@@ -118,7 +120,7 @@ stray_not : {rest more : List ℕ} → IsStray rest → (rest ≡ 44 ∷ more) �
 stray_not stray (inl e) = (subst IsStray e stray).0 refl
 stray_not stray (inr e) = (subst IsStray e stray).1 refl
 
--- a mark and what fails behind it
+-- a mark and what fails after it
 abbrev FailsOn : ℕ → ℕ → List ℕ → List ℕ → List FilterCall → TextKind → List ℕ → Type 0
 FailsOn total chain rest more calls kind bad = ((rest ≡ 44 ∷ more) × CallsFail total chain more calls kind bad) ⊎ ((rest ≡ 59 ∷ more) × CallsFail total (chain + 1) more calls kind bad)
 
@@ -133,7 +135,7 @@ fails_on_same total chain xs ys (inl u) (inr v) e again = absurd (marks_differ u
 fails_on_same total chain xs ys (inr u) (inl v) e again = absurd (marks_differ v.0 (sym e ∙ u.0))
 fails_on_same total chain xs ys (inr u) (inr v) e again = again (chain + 1) (rw (cons_parts (sym u.0 ∙ (e ∙ v.0))).1 at u.1) v.1
 
--- no call behind which another fails fails itself
+-- no call after which another fails fails itself
 none_fails : (total chain : ℕ) (text : List ℕ) {y : FilterCall} {rest more : List ℕ} {k : TextKind} {bad : List ℕ} → CallsFail total chain text [] k bad → IsFilter total chain text y rest → (rest ≡ 44 ∷ more) ⊎ (rest ≡ 59 ∷ more) → ⊥
 none_fails total chain text (inl f) h on = filter_apart h f
 none_fails total chain text (inr f) h on = stray_not (subst IsStray (filter_same f.1 h).1 f.2) on
@@ -211,11 +213,11 @@ same_fault text kind bad f h g =
 abbrev pub GraphFaultAt : List ℕ → TextFault → Type 0
 GraphFaultAt text f = (bad : List ℕ) × IsGraphFault text f.kind bad × (f.at + length bad ≡ length text)
 
-pub refused_reads : (text : List ℕ) (q : Result GraphText TextError) (e : TextError) → q ≡ Err e → IfFault q (GraphFaultAt text) → (calls : List FilterCall) → IsGraph text calls → Gives (λ g. g.calls ≡ calls) q
-refused_reads text q e is fault calls are = error_gives q e _ is (fault_handed q q e e is is refl (GraphFaultAt text) _ (λ f h. graph_or_fault text h.0 calls f.kind are h.1) fault)
+pub refused_reads : (text : List ℕ) (q : Result GraphText (Failure TextFault)) (e : Failure TextFault) → q ≡ Err e → IfFault q (GraphFaultAt text) → (calls : List FilterCall) → IsGraph text calls → Gives (λ g. g.calls ≡ calls) q
+refused_reads text q e is fault calls are = error_gives q e _ is (fault_passed q q e e is is refl (GraphFaultAt text) _ (λ f h. graph_or_fault text h.0 calls f.kind are h.1) fault)
 
-pub refused_faulty : (text : List ℕ) (q : Result GraphText TextError) (e : TextError) → q ≡ Err e → IfFault q (GraphFaultAt text) → (kind : TextKind) (bad : List ℕ) → IsGraphFault text kind bad → Refuses (IsFaultAt text kind bad) q
-refused_faulty text q e is fault kind bad g = error_refuses q e _ is (fault_handed q q e e is is refl (GraphFaultAt text) (IsFaultAt text kind bad) (λ f h. same_fault text kind bad f h g) fault)
+pub refused_faulty : (text : List ℕ) (q : Result GraphText (Failure TextFault)) (e : Failure TextFault) → q ≡ Err e → IfFault q (GraphFaultAt text) → (kind : TextKind) (bad : List ℕ) → IsGraphFault text kind bad → Refuses (IsFaultAt text kind bad) q
+refused_faulty text q e is fault kind bad g = error_refuses q e _ is (fault_passed q q e e is is refl (GraphFaultAt text) (IsFaultAt text kind bad) (λ f h. same_fault text kind bad f h g) fault)
 
 -- ---- places between filters
 

@@ -8,12 +8,12 @@ use Rattle.av_text.specs.Classes.{is_white, is_label, Stops, IsRun}
 use Rattle.av_text.specs.declared.fault.TextKind.{TextKind}
 use Rattle.av_text.specs.declared.fault.TextKind.TheVariants.{BadLabel}
 use Rattle.av_text.proofs.Runs.{same_run}
-use Rattle.av_text.proofs.ReadingLemmas.{cons_parts}
 use Rattle.av_text.specs.Parts.{Skips}
 use Rattle.av_text.specs.Parts.{Lacks}
 use Rattle.graph_text.specs.Grammar.{IsLabel, AreLabels, LabelsFail, NoLabels}
 use Rattle.av_text.specs.Parts.{IsPlace}
 use Rattle.av_text.proofs.Places.{skips_none, skipped_bare, skip_twice}
+use Rattle.av_base.proofs.Lists.{cons_parts}
 
 pub label_same : {text n m r s : List ℕ} → IsLabel text n r → IsLabel text m s → (n ≡ m) × (r ≡ s)
 label_same {text} {n} {m} {r} {s} a b =
@@ -36,7 +36,7 @@ no_characters {text} {inside} {lead} {named} {name} {behind} e p q empty n rest 
     let some = h.some in
     omega (arith, ap length characters)
 
--- no `]` stands behind the name
+-- no `]` is after the name
 pub no_closing : {text inside lead named name behind gap closed : List ℕ} → text ≡ 91 ∷ inside → IsRun is_white inside lead named → IsRun is_label named name behind → IsRun is_white behind gap closed
     → ((rest : List ℕ) → closed ≢ encode_utf8 93 ++ rest) → (n rest : List ℕ) → IsLabel text n rest → ⊥
 no_closing {text} {inside} {lead} {named} {name} {behind} {gap} {closed} e p q r none n rest h =
@@ -52,16 +52,16 @@ mark_front mark text rest low h = h.1.split ∙ ap (λ (xs : List ℕ). xs ++ dr
 
 -- ---- rows of labels
 
--- labels behind white space
-pub labels_behind : {text middle : List ℕ} (names : List (List ℕ)) (rest : List ℕ) → Skips text middle → AreLabels middle names rest → AreLabels text names rest
-labels_behind {text} {middle} [] rest s h = (skip_twice s h.0, h.1)
-labels_behind {text} {middle} (n ∷ names) rest s h = (h.0, h.1, skip_twice s h.2, h.3, h.4)
+-- labels after white space
+pub labels_after : {text middle : List ℕ} (names : List (List ℕ)) (rest : List ℕ) → Skips text middle → AreLabels middle names rest → AreLabels text names rest
+labels_after {text} {middle} [] rest s h = (skip_twice s h.0, h.1)
+labels_after {text} {middle} (n ∷ names) rest s h = (h.0, h.1, skip_twice s h.2, h.3, h.4)
 
-fails_behind : {text middle : List ℕ} (names : List (List ℕ)) (kind : TextKind) (bad : List ℕ) → Skips text middle → LabelsFail middle names kind bad → LabelsFail text names kind bad
-fails_behind {text} {middle} [] kind bad s h = (h.0, skip_twice s h.1, h.2, h.3, h.4)
-fails_behind {text} {middle} (n ∷ names) kind bad s h = (h.0, h.1, skip_twice s h.2, h.3, h.4)
+fails_after : {text middle : List ℕ} (names : List (List ℕ)) (kind : TextKind) (bad : List ℕ) → Skips text middle → LabelsFail middle names kind bad → LabelsFail text names kind bad
+fails_after {text} {middle} [] kind bad s h = (h.0, skip_twice s h.1, h.2, h.3, h.4)
+fails_after {text} {middle} (n ∷ names) kind bad s h = (h.0, h.1, skip_twice s h.2, h.3, h.4)
 
--- labels were read up to a place: whatever stands behind it completes them
+-- labels were read up to a place: whatever is after it completes them
 pub record Labelled (text : List ℕ) (start : ℕ) (labels : List (List ℕ)) (place : ℕ) : Type 0 where
   pub later : IsPlace text start place
   pub bare : Stops is_white (drop place text)
@@ -72,8 +72,8 @@ pub labelled_none : (text : List ℕ) (start place : ℕ) → IsPlace text start
 labelled_none text start place later s = record {
   later = later;
   bare = skipped_bare s;
-  reads = λ more rest h. labels_behind more rest s h;
-  fails = λ more kind bad h. fails_behind more kind bad s h;
+  reads = λ more rest h. labels_after more rest s h;
+  fails = λ more kind bad h. fails_after more kind bad s h;
 }
 
 pub labelled_more : {text : List ℕ} {start : ℕ} {labels : List (List ℕ)} {place : ℕ} (name behind : List ℕ) (end next : ℕ) → Labelled text start labels place → IsLabel (drop place text) name behind
@@ -83,10 +83,10 @@ labelled_more {text} {start} {labels} {place} name behind end next l label e aft
   bare = skipped_bare s;
   reads = λ more rest h.
       let P : List (List ℕ) → Type 0 = λ names. AreLabels (drop start text) names rest in
-      subst P (sym (append_assoc labels (name ∷ []) more)) (l.reads (name ∷ more) rest (drop place text, behind, skips_none l.bare, label, labels_behind more rest (rw e at s) h));
+      subst P (sym (append_assoc labels (name ∷ []) more)) (l.reads (name ∷ more) rest (drop place text, behind, skips_none l.bare, label, labels_after more rest (rw e at s) h));
   fails = λ more kind bad h.
       let P : List (List ℕ) → Type 0 = λ names. LabelsFail (drop start text) names kind bad in
-      subst P (sym (append_assoc labels (name ∷ []) more)) (l.fails (name ∷ more) kind bad (drop place text, behind, skips_none l.bare, label, fails_behind more kind bad (rw e at s) h));
+      subst P (sym (append_assoc labels (name ∷ []) more)) (l.fails (name ∷ more) kind bad (drop place text, behind, skips_none l.bare, label, fails_after more kind bad (rw e at s) h));
 }
 
 -- no label follows
@@ -98,7 +98,7 @@ pub labelled_bad : {text : List ℕ} {start : ℕ} {labels : List (List ℕ)} {p
     → ((name rest : List ℕ) → IsLabel (drop place text) name rest → ⊥) → NoLabels (drop start text) BadLabel (drop place text)
 labelled_bad {text} {start} {labels} {place} l begins none = (labels, rw append-nil at (l.fails [] BadLabel (drop place text) (begins.0, skips_none l.bare, begins.1, none, refl)))
 
--- a label ends behind its beginning
+-- a label ends after its beginning
 pub label_front : {text name rest : List ℕ} → IsLabel text name rest → (front : List ℕ) × (text ≡ front ++ rest) × (0 < length front)
 label_front {text} {name} {rest} h = (
   91 ∷ (h.before.0 ++ (name ++ (h.closes.0 ++ 93 ∷ []))),

@@ -1,4 +1,5 @@
 mod LabelLemmas
 mod PartLemmas
 mod TotalLemmas
+mod ArgCountLemmas
 pub mod GraphLemmas

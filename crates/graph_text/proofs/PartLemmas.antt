@@ -6,7 +6,7 @@ use Rattle.av_text.specs.declared.arguments.Arg.{Arg}
 use Rattle.av_text.specs.declared.fault.TextKind.{TextKind}
 use Rattle.av_text.proofs.Runs.{same_run}
 use Rattle.av_text.proofs.PartLaws.{Lawful, Pair, in_turn, lacks_not}
-use Rattle.av_text.proofs.ReadingLemmas.{cons_parts, one_token, one_fault, not_both}
+use Rattle.av_text.proofs.ReadingLemmas.{one_token, one_fault, not_both}
 use Rattle.av_text.proofs.ArgLemmas.{one_list, one_args_fault, args_or_fault}
 use Rattle.av_text.specs.Parts.{Skips}
 use Rattle.graph_text.specs.Grammar.{AreLabels, LabelsFail, NoLabels, IsName, NoName, IsInstance, NoInstance, ends, AreArguments, NoArguments, NoFilter}
@@ -14,6 +14,7 @@ use Rattle.graph_text.specs.Grammar.{IsFilter}
 use Rattle.graph_text.specs.declared.graph.FilterCall.{FilterCall}
 use Rattle.av_text.proofs.Places.{skip_same}
 use Rattle.graph_text.proofs.LabelLemmas.{label_same}
+use Rattle.av_base.proofs.Lists.{cons_parts}
 
 -- ---- labels
 
@@ -65,30 +66,30 @@ name_law = record {
 
 -- ---- instances
 
--- what stands behind a mark that stands behind white space
-behind_same : {text a b : List ℕ} (mark : ℕ) → Skips text (mark ∷ a) → Skips text (mark ∷ b) → a ≡ b
-behind_same mark p q = (cons_parts (skip_same p q)).1
+-- what is after a mark that is after white space
+after_same : {text a b : List ℕ} (mark : ℕ) → Skips text (mark ∷ a) → Skips text (mark ∷ b) → a ≡ b
+after_same mark p q = (cons_parts (skip_same p q)).1
 
 instance_same : (text : List ℕ) (x y : Option Text) (r s : List ℕ) → IsInstance text x r → IsInstance text y s → (x ≡ y) × (r ≡ s)
 instance_same text None None r s a b = (refl, skip_same a.0 b.0)
 instance_same text None (Some y) r s a b = absurd (lacks_not 64 (skip_same a.0 b.2) a.1)
 instance_same text (Some x) None r s a b = absurd (lacks_not 64 (skip_same b.0 a.2) b.1)
 instance_same text (Some x) (Some y) r s a b =
-    let behind = behind_same 64 a.2 b.2 in
+    let behind = after_same 64 a.2 b.2 in
     let named = skip_same (rw behind at a.3) b.3 in
     let t = name_law.same (rw named at a.4) b.4 in
     (ap Some t.0, t.1)
 
 instance_fault : {text r s : List ℕ} {k l : TextKind} → NoInstance text k r → NoInstance text l s → (k ≡ l) × (r ≡ s)
 instance_fault {text} {r} {s} {k} {l} a b =
-    let behind = behind_same 64 a.2 b.2 in
+    let behind = after_same 64 a.2 b.2 in
     let named = skip_same (rw behind at a.3) b.3 in
     name_law.fault (rw named at a.4) b.4
 
 instance_apart : (text : List ℕ) (x : Option Text) (k : TextKind) (r s : List ℕ) → IsInstance text x r → NoInstance text k s → ⊥
 instance_apart text None k r s a b = lacks_not 64 (skip_same a.0 b.2) a.1
 instance_apart text (Some x) k r s a b =
-    let behind = behind_same 64 a.2 b.2 in
+    let behind = after_same 64 a.2 b.2 in
     let named = skip_same (rw behind at a.3) b.3 in
     name_law.apart (rw named at a.4) b.4
 
@@ -106,14 +107,14 @@ arguments_same text x y r s (inl a) (inl b) = (a.2 ∙ sym b.2, skip_same a.0 b.
 arguments_same text x y r s (inl a) (inr b) = absurd (lacks_not 61 (skip_same a.0 b.3) a.1)
 arguments_same text x y r s (inr a) (inl b) = absurd (lacks_not 61 (skip_same b.0 a.3) b.1)
 arguments_same text x y r s (inr a) (inr b) =
-    let behind = behind_same 61 a.3 b.3 in
+    let behind = after_same 61 a.3 b.3 in
     let start = skip_same (rw behind at a.4) b.4 in
     let token = one_token ends b.1 a.2 b.2 r s (rw start at a.5) b.5 in
     (one_list b.2 x y (rw token.0 at a.6) b.6, token.1)
 
--- where the arguments begin
+-- the place of the arguments
 start_same : {text a b c d : List ℕ} → Skips text (61 ∷ a) → Skips a c → Skips text (61 ∷ b) → Skips b d → c ≡ d
-start_same {text} {a} {b} {c} {d} p q r s = skip_same (rw (behind_same 61 p r) at q) s
+start_same {text} {a} {b} {c} {d} p q r s = skip_same (rw (after_same 61 p r) at q) s
 
 arguments_fault : {text r s : List ℕ} {k l : TextKind} → NoArguments text k r → NoArguments text l s → (k ≡ l) × (r ≡ s)
 arguments_fault {text} {r} {s} {k} {l} (b, c, p, q, inl f) (d, e, u, v, inl g) = one_fault ends e r s k l (rw (start_same p q u v) at f) g

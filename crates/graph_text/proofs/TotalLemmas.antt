@@ -1,6 +1,6 @@
 -- A text says a graph or has a fault.
 use Rattle.std.proofs.Common.{◌≡◌, ◌≢◌, ◌<◌, ◌≤◌, ◌+◌, ◌-◌, ◌⊎◌, ℕ, zero, suc, List, [], ◌∷◌, ◌++◌, Option, Some, None, length, refl, sym, ◌∙◌, ap, subst, arith, inl, inr}
-use Rattle.std.proofs.lemmas.Bool.{cases_eq, ne_eqb}
+use Rattle.std.proofs.lemmas.Bool.{cases_eq}
 use Rattle.std.proofs.lemmas.List.{length-append}
 use Rattle.std.proofs.lemmas.Str.{encode_ascii}
 use Rattle.av_base.specs.declared.containers.Text.{Text}
@@ -8,8 +8,7 @@ use Rattle.av_text.specs.Classes.{is_white, is_name, is_label, Stops, IsRun}
 use Rattle.av_text.specs.declared.arguments.Arg.{Arg}
 use Rattle.av_text.specs.declared.fault.TextKind.{TextKind}
 use Rattle.av_text.specs.declared.fault.TextKind.TheVariants.{ExpectedName, BadLabel, Stray}
-use Rattle.av_text.proofs.TotalLemmas.{span, first_mark, token_or_fault, args_or_none}
-use Rattle.av_text.proofs.ReadingLemmas.{cons_parts}
+use Rattle.av_text.proofs.TotalLemmas.{span, first_mark, token_or_fault, args_or_none, skip_of, skip_length, begins_or}
 use Rattle.av_text.proofs.ArgLemmas.{token_front}
 use Rattle.av_text.specs.Parts.{Skips, Either}
 use Rattle.av_text.specs.Parts.{Lacks}
@@ -20,18 +19,10 @@ use Rattle.av_text.proofs.Places.{skips_none, skip_same}
 use Rattle.graph_text.proofs.LabelLemmas.{no_characters, no_closing, label_front}
 use Rattle.av_text.proofs.PartLaws.{Pair, lacks_not}
 use Rattle.graph_text.proofs.PartLemmas.{FilterParts}
+use Rattle.av_base.proofs.Lists.{cons_parts}
+use Rattle.std.proofs.Math.Nat.{eq-zero-or-pos}
 
 -- ---- marks
-
-skip_of : (text : List ℕ) → (rest : List ℕ) × Skips text rest
-skip_of text = let s = span is_white text in (s.1, (s.0, s.2))
-
-begins_or : (mark : ℕ) (text : List ℕ) → ((inside : List ℕ) × (text ≡ mark ∷ inside)) ⊎ Lacks mark text
-begins_or mark [] = inr tt
-begins_or mark (c ∷ text) = elim (cases_eq c mark) [
-  | inl e ↦ inl (text, ap (λ (x : ℕ). x ∷ text) e)
-  | inr other ↦ inr (ne_eqb c mark other)
-]
 
 begins_with_or : (mark text : List ℕ) → ((rest : List ℕ) × (text ≡ mark ++ rest)) ⊎ ((rest : List ℕ) → text ≢ mark ++ rest)
 begins_with_or [] text = inl (text, refl)
@@ -44,13 +35,6 @@ begins_with_or (m ∷ mark) (c ∷ text) = elim (cases_eq c m) [
   | inr other ↦ inr (λ rest f. other (cons_parts f).0)
 ]
 
-some_or : (xs : List ℕ) → (0 < length xs) ⊎ (length xs ≡ 0)
-some_or [] = inr refl
-some_or (x ∷ xs) = inl (omega arith)
-
-skip_length : {text rest : List ℕ} → Skips text rest → length rest ≤ length text
-skip_length {text} {rest} s = omega (arith, ap length s.1.text_is, length-append s.0 rest)
-
 -- ---- labels
 
 label_or : (text inside : List ℕ) → text ≡ 91 ∷ inside → ((name rest : List ℕ) × IsLabel text name rest) ⊎ ((name rest : List ℕ) → ¬ IsLabel text name rest)
@@ -58,8 +42,8 @@ label_or text inside e =
     let lead = span is_white inside in
     let name = span is_label lead.1 in
     let gap = span is_white name.1 in
-    elim (some_or name.0) [
-      | inl some ↦ elim (begins_or 93 gap.1) [
+    elim (eq-zero-or-pos (length name.0)) [
+      | inr some ↦ elim (begins_or 93 gap.1) [
         | inl h ↦ inl (
           name.0,
           h.0,
@@ -76,7 +60,7 @@ label_or text inside e =
         )
         | inr lacks ↦ inr (no_closing e lead.2 name.2 gap.2 (λ rest f. lacks_not 93 (f ∙ ap (λ (xs : List ℕ). xs ++ rest) (encode_ascii 93 (omega arith))) lacks))
       ]
-      | inr empty ↦ inr (no_characters e lead.2 name.2 empty)
+      | inl empty ↦ inr (no_characters e lead.2 name.2 empty)
     ]
 
 abbrev LabelsOrFault : List ℕ → Type 0
@@ -113,9 +97,9 @@ labels_or text = labels_within (length text) text (omega arith)
 name_or : (text : List ℕ) → ((name : Text) × (rest : List ℕ) × IsName text name rest) ⊎ ((kind : TextKind) × (bad : List ℕ) × NoName text kind bad)
 name_or text =
     let s = span is_name text in
-    elim (some_or s.0) [
-      | inl some ↦ inl (s.0, s.1, (s.2, some))
-      | inr empty ↦ inr (ExpectedName, text, (stops s.0 s.1 s.2 empty, refl, refl))
+    elim (eq-zero-or-pos (length s.0)) [
+      | inr some ↦ inl (s.0, s.1, (s.2, some))
+      | inl empty ↦ inr (ExpectedName, text, (stops s.0 s.1 s.2 empty, refl, refl))
     ]
   where
     stops : (front rest : List ℕ) → IsRun is_name text front rest → length front ≡ 0 → Stops is_name text
@@ -155,7 +139,7 @@ arguments_or text =
 
 -- ---- filters
 
--- two parts, one behind the other
+-- two parts, one after the other
 turn_or : {X Y : Type 0} (P : List ℕ → X → List ℕ → Type 0) (Q : List ℕ → Y → List ℕ → Type 0) (F G : List ℕ → TextKind → List ℕ → Type 0)
     → ((t : List ℕ) → ((x : X) × (r : List ℕ) × P t x r) ⊎ ((k : TextKind) × (b : List ℕ) × F t k b)) → ((t : List ℕ) → ((y : Y) × (r : List ℕ) × Q t y r) ⊎ ((k : TextKind) × (b : List ℕ) × G t k b))
     → (t : List ℕ) → ((z : X × Y) × (r : List ℕ) × Pair P Q t z r) ⊎ ((k : TextKind) × (b : List ℕ) × Either P F G t k b)
@@ -230,10 +214,10 @@ filter_of total chain text rest z h fits =
       omega arith,
     )
 
-behind_filter : (n total chain : ℕ) (text rest : List ℕ) (call : FilterCall) → IsFilter total chain text call rest → length rest < length text → length text ≤ suc n → length text ≤ total
+after_filter : (n total chain : ℕ) (text rest : List ℕ) (call : FilterCall) → IsFilter total chain text call rest → length rest < length text → length text ≤ suc n → length text ≤ total
     → ((c : ℕ) (t : List ℕ) → length t ≤ n → length t ≤ total → CallsOrFault total c t) → CallsOrFault total chain text
-behind_filter n total chain text [] call h short fits room again = inl (call ∷ [], ([], h, inl (refl, refl)))
-behind_filter n total chain text (c ∷ more) call h short fits room again = elim (cases_eq c 44) [
+after_filter n total chain text [] call h short fits room again = inl (call ∷ [], ([], h, inl (refl, refl)))
+after_filter n total chain text (c ∷ more) call h short fits room again = elim (cases_eq c 44) [
   | inl e ↦ (let same = ap (λ (x : ℕ). x ∷ more) e in
       elim (again chain more (omega arith) (omega arith)) [
         | inl others ↦ inl (call ∷ others.0, (c ∷ more, h, inr (inl (more, same, others.1))))
@@ -251,7 +235,7 @@ behind_filter n total chain text (c ∷ more) call h short fits room again = eli
 
 calls_from : (n total chain : ℕ) (text : List ℕ) → length text ≤ suc n → length text ≤ total → ((c : ℕ) (t : List ℕ) → length t ≤ n → length t ≤ total → CallsOrFault total c t) → CallsOrFault total chain text
 calls_from n total chain text fits room again = elim (parts_or text) [
-  | inl z ↦ (let f = filter_of total chain text z.1 z.0 z.2 room in behind_filter n total chain text z.1 f.0 f.1 f.2 fits room again)
+  | inl z ↦ (let f = filter_of total chain text z.1 z.0 z.2 room in after_filter n total chain text z.1 f.0 f.1 f.2 fits room again)
   | inr bad ↦ inr (bad.0, bad.1, [], inl bad.2)
 ]
 
@@ -264,8 +248,8 @@ calls_within (suc n) total chain text fits room = calls_from n total chain text 
 
 -- ---- graphs
 
-behind_flags : {text named rest : List ℕ} (front body : List ℕ) → Skips text named → named ≡ flags_mark ++ rest → rest ≡ front ++ 59 ∷ body → length body ≤ length text
-behind_flags {text} {named} {rest} front body s mark flags =
+after_flags : {text named rest : List ℕ} (front body : List ℕ) → Skips text named → named ≡ flags_mark ++ rest → rest ≡ front ++ 59 ∷ body → length body ≤ length text
+after_flags {text} {named} {rest} front body s mark flags =
     let short = skip_length s in
     omega (arith, ap length mark, length-append flags_mark rest, ap length flags, length-append front (59 ∷ body))
 
@@ -276,7 +260,7 @@ body_or text =
       | inl h ↦
           (let at : Skips text (flags_mark ++ h.0) = subst (λ (xs : List ℕ). Skips text xs) h.1 s.1 in
           elim (first_mark 59 h.0) [
-            | inl f ↦ inl (f.1, inl (f.0, subst (λ (xs : List ℕ). Skips text (flags_mark ++ xs)) f.2 at, f.3), behind_flags f.0 f.1 s.1 h.1 f.2)
+            | inl f ↦ inl (f.1, inl (f.0, subst (λ (xs : List ℕ). Skips text (flags_mark ++ xs)) f.2 at, f.3), after_flags f.0 f.1 s.1 h.1 f.2)
             | inr none ↦ inr (ExpectedName, [], (h.0, at, none, refl, refl))
           ])
       | inr none ↦ inl (text, inr ((λ rest other. none rest (skip_same s.1 other)), refl), omega arith)

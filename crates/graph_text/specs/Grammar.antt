@@ -1,5 +1,5 @@
--- Filters and their parts (FFmpeg Filters Documentation, "Filtergraph syntax"). White space may stand before, between and
--- behind all parts.
+-- Filters and their parts (FFmpeg Filters Documentation, "Filtergraph syntax"). White space may be before, between and
+-- after all parts.
 use Rattle.std.specs.Prelude.{◌≡◌, ◌<◌, ◌+◌, ◌⊎◌, ℕ, List, [], ◌∷◌, Option, Some, None, length}
 use Rattle.av_base.specs.declared.containers.Text.{Text}
 use Rattle.av_text.specs.Classes.{is_name, is_label, Stops, IsRun}
@@ -30,7 +30,7 @@ abbrev pub AreLabels : List ℕ → List Text → List ℕ → Type 0
 AreLabels text [] rest = Skips text rest × Lacks 91 rest
 AreLabels text (name ∷ names) rest = (label behind : List ℕ) × Skips text label × IsLabel label name behind × AreLabels behind names rest
 
--- behind these labels a `[` begins no label
+-- after these labels a `[` begins no label
 abbrev pub LabelsFail : List ℕ → List Text → TextKind → List ℕ → Type 0
 LabelsFail text [] kind bad = (inside : List ℕ) × Skips text bad × (bad ≡ 91 ∷ inside) × ((name rest : List ℕ) → ¬ IsLabel bad name rest) × (kind ≡ BadLabel)
 LabelsFail text (name ∷ names) kind bad = (label behind : List ℕ) × Skips text label × IsLabel label name behind × LabelsFail behind names kind bad
@@ -66,7 +66,7 @@ abbrev pub AreArguments : List ℕ → List Arg → List ℕ → Type 0
 AreArguments text args rest = (Skips text rest × Lacks 61 rest × (args ≡ []))
     ⊎ ((behind start token : List ℕ) × Skips text (61 ∷ behind) × Skips behind start × IsToken ends start token rest × AreArgs token args)
 
--- the token has a fault, or its value has one, which stands where the token begins
+-- the token has a fault, or its value has one, which is at the byte where the token begins
 abbrev pub NoArguments : List ℕ → TextKind → List ℕ → Type 0
 NoArguments text kind bad = (behind start : List ℕ) × Skips text (61 ∷ behind) × Skips behind start
     × (IsTokenFault ends start kind bad ⊎ ((token rest inner : List ℕ) × IsToken ends start token rest × IsArgsFault token kind inner × (bad ≡ start)))
@@ -84,7 +84,7 @@ pub record IsFilter (total chain : ℕ) (text : List ℕ) (call : FilterCall) (r
   pub instance : IsInstance unnamed call.instance called
   pub args : AreArguments called call.args labelled
   pub outs : AreLabels labelled call.outs rest
-  -- its place is that of its name, in a text of so many bytes
+  -- its place is that of its name, in a text of this many bytes
   pub at_is : call.at + length named ≡ total
   pub chain_is : call.chain ≡ chain
 

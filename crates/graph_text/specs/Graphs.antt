@@ -7,7 +7,7 @@ use Rattle.av_text.specs.Parts.{Skips}
 use Rattle.graph_text.specs.Grammar.{IsFilter, NoFilter}
 use Rattle.graph_text.specs.declared.graph.FilterCall.{FilterCall}
 
--- a filter, and behind it nothing; or a `,` and more of its chain; or a `;` and the next chain
+-- a filter, and after it nothing; or a `,` and more of its chain; or a `;` and the next chain
 abbrev pub AreCalls : ℕ → ℕ → List ℕ → List FilterCall → Type 0
 AreCalls total chain text [] = ⊥
 AreCalls total chain text (call ∷ calls) = (rest : List ℕ) × IsFilter total chain text call rest
@@ -15,12 +15,12 @@ AreCalls total chain text (call ∷ calls) = (rest : List ℕ) × IsFilter total
     ⊎ (((more : List ℕ) × (rest ≡ 44 ∷ more) × AreCalls total chain more calls)
     ⊎ ((more : List ℕ) × (rest ≡ 59 ∷ more) × AreCalls total (chain + 1) more calls)))
 
--- what stands there is neither the end nor a `,` nor a `;`
+-- what is there is neither the end nor a `,` nor a `;`
 abbrev pub IsStray : List ℕ → Type 0
 IsStray [] = ⊥
 IsStray (c ∷ rest) = (c ≢ 44) × (c ≢ 59)
 
--- behind these calls no filter stands, or one that is followed by something else
+-- after these calls comes no filter, or one that is followed by something else
 abbrev pub CallsFail : ℕ → ℕ → List ℕ → List FilterCall → TextKind → List ℕ → Type 0
 CallsFail total chain text [] kind bad = NoFilter text kind bad
     ⊎ ((call : FilterCall) × IsFilter total chain text call bad × IsStray bad × (kind ≡ Stray))
@@ -31,7 +31,7 @@ CallsFail total chain text (call ∷ calls) kind bad = (rest more : List ℕ) ×
 abbrev pub flags_mark : List ℕ
 flags_mark = codes "sws_flags="
 
--- the chains stand behind the flags and the first `;`, where the text begins with flags
+-- the chains are after the flags and the first `;`, if the text begins with flags
 abbrev pub IsBody : List ℕ → List ℕ → Type 0
 IsBody text body = ((flags : List ℕ) × Skips text (flags_mark ++ (flags ++ 59 ∷ body)) × ¬ Contains flags 59)
     ⊎ (((rest : List ℕ) → ¬ Skips text (flags_mark ++ rest)) × (body ≡ text))

@@ -1,10 +1,10 @@
 //! Arguments of filters, at both levels of escaping.
 ghost use Rattle.std.specs.Prelude.{◌≡◌, ◌≤◌, ◌<◌, ◌+◌, ◌^◌, ℕ, List, length, drop, IfOk};
 ghost use Rattle.std.specs.Str.{IsCharBoundary};
-ghost use Rattle.av_text.specs.Faults.{IfFault};
 ghost use Rattle.graph_text.specs.Grammar.{AreArguments, NoArguments};
 ghost use Rattle.av_text.specs.Parts.{IsPlace};
 ghost use Rattle.graph_text.specs.Reading.{FailsAt};
+ghost use Rattle.av_base.specs.Failures.{IfFault};
 
 use crate::names::fault;
 use av_base::List;
@@ -14,7 +14,7 @@ use std::alloc::Global;
 /// What ends a filter's arguments.
 const ENDS: &[u8] = b"[],;";
 
-/// The arguments that stand at a place, behind a `=`, if any do, and the place behind them.
+/// The arguments at a place, after a `=`, if there are any, and the place after them.
 pub(crate) fn read_arguments(
     alloc: Global,
     text: &str,

@@ -1,10 +1,10 @@
 //! Filters.
 ghost use Rattle.std.specs.Prelude.{◌≡◌, ◌≤◌, ◌<◌, ◌+◌, ◌^◌, ℕ, List, length, drop, IfOk};
 ghost use Rattle.std.specs.Str.{IsCharBoundary};
-ghost use Rattle.av_text.specs.Faults.{IfFault};
 ghost use Rattle.graph_text.specs.Grammar.{IsFilter, NoFilter};
 ghost use Rattle.av_text.specs.Parts.{IsPlace};
 ghost use Rattle.graph_text.specs.Reading.{FailsAt};
+ghost use Rattle.av_base.specs.Failures.{IfFault};
 
 use crate::FilterCall;
 use crate::arguments::read_arguments;
@@ -13,7 +13,7 @@ use crate::names::{read_instance, read_name};
 use av_text::TextError;
 use std::alloc::Global;
 
-/// The filter that stands at a place, in this chain, and the place behind it.
+/// The filter at a place, in this chain, and the place after it.
 pub(crate) fn read_filter(
     alloc: Global,
     text: &str,

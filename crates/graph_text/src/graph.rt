@@ -1,12 +1,14 @@
 //! Whole texts.
 ghost use Rattle.std.specs.Prelude.{◌≡◌, ◌≤◌, ◌<◌, ◌+◌, ◌^◌, ℕ, List, length, drop, IfOk};
 ghost use Rattle.std.specs.Str.{IsCharBoundary};
-ghost use Rattle.av_text.specs.Faults.{IfFault, IsFaultAt, Gives, Refuses};
+ghost use Rattle.av_text.specs.Faults.{IsFaultAt};
 ghost use Rattle.av_text.specs.declared.fault.TextKind.{TextKind};
+ghost use Rattle.std.specs.List.{AllByRecursion};
 ghost use Rattle.graph_text.specs.Graphs.{IsStray, IsBody, NoBody, IsGraph, IsGraphFault};
 ghost use Rattle.av_text.specs.Parts.{IsPlace};
 ghost use Rattle.graph_text.specs.Reading.{FailsAt, IsNext};
 ghost use Rattle.graph_text.specs.declared.graph.FilterCall.{FilterCall};
+ghost use Rattle.av_base.specs.Failures.{IfFault, Gives, Refuses};
 
 use crate::filter::read_filter;
 use crate::names::fault;
@@ -19,13 +21,13 @@ use std::alloc::Global;
 pub struct FilterCall {
     /// The filter's name.
     pub name: Text,
-    /// The name of its instance, behind an `@`.
+    /// The name of its instance, after an `@`.
     pub instance: Option<Text>,
-    /// Its arguments, behind a `=`.
+    /// Its arguments, after a `=`.
     pub args: List<Arg>,
     /// The labels before it, which name its first inputs.
     pub ins: List<Text>,
-    /// The labels behind it, which name its first outputs.
+    /// The labels after it, which name its first outputs.
     pub outs: List<Text>,
     /// The byte of the text at which its name begins.
     pub at: u32,
@@ -60,8 +62,8 @@ fn find_body(text: &str) -> Result<usize, TextError>
     }
 }
 
-/// The chain of the filter behind the one that ends at a place; none where the text ends there.
-fn chain_behind(text: &str, place: usize, chain: u32) -> Result<Option<u32>, TextError>
+/// The chain of the filter after the one that ends at a place; none if the text ends there.
+fn chain_after(text: &str, place: usize, chain: u32) -> Result<Option<u32>, TextError>
     requires within { place ≤ length text.now }
     requires length { length text.now < 2 ^ 32 }
     requires chain { chain ≤ place }
@@ -78,18 +80,21 @@ fn chain_behind(text: &str, place: usize, chain: u32) -> Result<Option<u32>, Tex
 
 /// The filters that a text calls.
 ///
-/// Chains are joined by `;` and the filters of a chain by `,`. A filter is labels, a name, an instance behind an `@`,
-/// arguments behind a `=`, and labels, of which all but the name may be missing. White space may stand between all
+/// Chains are joined by `;` and the filters of a chain by `,`. A filter is labels, a name, an instance after an `@`,
+/// arguments after a `=`, and labels, of which all but the name may be missing. White space may be between all
 /// parts. What `sws_flags=` and the first `;` enclose at the beginning is skipped. The text has fewer than 2^32 bytes.
 /// (FFmpeg Filters Documentation, "Filtergraph syntax".)
 ///
-/// Errors, of which the first in reading order is answered: `ExpectedName` where a name must begin and none does, or at
-/// the end where `sws_flags=` has no `;`; `BadLabel` at a `[` that begins no label; `Stray` where a whole filter is
-/// followed by something else than `,`, `;` or the end; `UnclosedQuote` and `LoneEscape` of arguments at their byte, and
-/// where only the argument's own quoting has the fault, at the byte where the arguments begin; want of memory.
+/// # Errors
+/// The first in reading order of these: `ExpectedName` at a place at which a name must begin and none does, or at the
+/// end if `sws_flags=` has no `;`; `BadLabel` at a `[` that begins no label; `Stray` at what follows a whole filter and is
+/// neither `,` nor `;` nor the end; `UnclosedQuote` and `LoneEscape` of arguments at their byte, or at the first byte of
+/// the arguments if only an argument's own quoting has the fault. Or out of memory.
 pub fn parse(alloc: Global, text: &str) -> Result<GraphText, TextError>
     requires { length text.now < 2 ^ 32 }
     ensures graph { IfOk result (λ g. IsGraph text.now g.calls) }
+    // A filter has no more arguments than the text has bytes.
+    ensures few { IfOk result (λ g. AllByRecursion (λ call. length call.args < 2 ^ 32) g.calls) }
     // What has a reading isn't refused, and has no other.
     ensures reads { (calls : List FilterCall) → IsGraph text.now calls → Gives (λ g. g.calls ≡ calls) result }
     ensures fault { IfFault result (λ f. (bad : List ℕ) × IsGraphFault text.now f.kind bad × (f.at + length bad ≡ length text.now)) }
@@ -102,7 +107,7 @@ pub fn parse(alloc: Global, text: &str) -> Result<GraphText, TextError>
     'calls: loop {
         let (call, end) = read_filter(alloc, text, place, chain)?;
         calls.push(call)?;
-        match chain_behind(text, end, chain)? {
+        match chain_after(text, end, chain)? {
             Some(next) => chain = next,
             None => break,
         }

@@ -1,17 +1,17 @@
 //! Labels.
 ghost use Rattle.std.specs.Prelude.{◌≡◌, ◌≤◌, ◌<◌, ◌+◌, ◌^◌, ◌∷◌, ℕ, List, length, drop, IfOk, IfSome, IsNone};
 ghost use Rattle.std.specs.Str.{IsUtf8, IsCharBoundary};
-ghost use Rattle.av_text.specs.Faults.{IfFault};
 ghost use Rattle.graph_text.specs.Grammar.{IsLabel, AreLabels, NoLabels};
 ghost use Rattle.av_text.specs.Parts.{IsPlace};
 ghost use Rattle.graph_text.specs.Reading.{FailsAt};
+ghost use Rattle.av_base.specs.Failures.{IfFault};
 
 use crate::names::fault;
 use av_base::{List, Text};
 use av_text::{Class, TextError, TextKind, skip_white, split_run};
 use std::alloc::Global;
 
-/// The name of the label that a text begins with, and the text behind it.
+/// The name of the label that a text begins with, and the text after it.
 fn split_label(text: &str) -> Option<(&str, &str)>
     ensures label { IfSome result (λ p. IsLabel text.now p.0.now p.1.now) }
     ensures none { IsNone result → (name rest : List ℕ) → IsLabel text.now name rest → ⊥ }
@@ -29,7 +29,7 @@ fn split_label(text: &str) -> Option<(&str, &str)>
     }
 }
 
-/// The labels that stand at a place, and the place behind them.
+/// The labels at a place, and the place after them.
 pub(crate) fn read_labels(
     alloc: Global,
     text: &str,

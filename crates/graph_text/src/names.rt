@@ -1,11 +1,12 @@
 //! Names of filters and of their instances.
 ghost use Rattle.std.specs.Prelude.{◌≡◌, ◌≤◌, ◌<◌, ◌+◌, ◌^◌, ℕ, List, length, drop, IfOk};
 ghost use Rattle.std.specs.Str.{IsCharBoundary};
-ghost use Rattle.av_text.specs.Faults.{IfFault};
 ghost use Rattle.av_text.specs.Parts.{Skips};
 ghost use Rattle.graph_text.specs.Grammar.{IsName, NoName, IsInstance, NoInstance};
 ghost use Rattle.av_text.specs.Parts.{IsPlace};
 ghost use Rattle.graph_text.specs.Reading.{FailsAt};
+ghost use Rattle.av_base.specs.Failures.{IfFault};
+ghost use Rattle.av_base.specs.declared.failure.Failure.{Failure};
 
 use av_base::Text;
 use av_text::{Class, TextError, TextFault, TextKind, skip_white, split_run};
@@ -14,13 +15,13 @@ use std::alloc::Global;
 /// The fault of a kind at a place.
 pub(crate) fn fault(place: usize, kind: TextKind) -> TextError
     requires { place < 2 ^ 32 }
-    ensures { result ≡ TextError.Fault (record { at = place; kind = kind }) }
+    ensures { result ≡ Failure.Fault (record { at = place; kind = kind }) }
 {
     let at = place as u32;
     TextError::Fault(TextFault { at, kind })
 }
 
-/// The name at a place, and the place behind it.
+/// The name at a place, and the place after it.
 pub(crate) fn read_name(alloc: Global, text: &str, place: usize) -> Result<(Text, usize), TextError>
     requires place { IsCharBoundary text.now place }
     requires length { length text.now < 2 ^ 32 }
@@ -36,7 +37,7 @@ pub(crate) fn read_name(alloc: Global, text: &str, place: usize) -> Result<(Text
     Ok((name, text.len() - rest.len()))
 }
 
-/// The instance that stands at a place, behind an `@`, if one does, and the place behind it.
+/// The instance at a place, after an `@`, if there is one, and the place after it.
 pub(crate) fn read_instance(
     alloc: Global,
     text: &str,

@@ -14,7 +14,7 @@ fn push_labels(out: &mut String, labels: &[Text]) -> Result<(), AllocError> {
     Ok(())
 }
 
-/// Adds a call: its labels, name, instance, arguments with a `|` behind each, and labels.
+/// Adds a call: its labels, name, instance, arguments with a `|` after each, and labels.
 fn push_call(out: &mut String, call: &FilterCall) -> Result<(), AllocError> {
     push_labels(out, call.ins.as_slice())?;
     out.push_str(call.name.as_str())?;
@@ -34,7 +34,7 @@ fn push_call(out: &mut String, call: &FilterCall) -> Result<(), AllocError> {
     push_labels(out, call.outs.as_slice())
 }
 
-/// The calls, with a line feed behind each.
+/// The calls, with a line feed after each.
 fn calls(alloc: Global, list: &[FilterCall]) -> Result<String, AllocError> {
     let mut all = String::new(alloc);
     for call in list {
@@ -113,7 +113,7 @@ fn the_first_fault_is_named_at_its_byte(rt: HostRuntime) {
         ("a=b]c", 3, TextKind::Stray),
         ("null[", 4, TextKind::BadLabel),
         ("null [a][a b]", 8, TextKind::BadLabel),
-        // The quote is gone at the second level, and stands alone at the first.
+        // The quote is gone at the second level, and is alone at the first.
         (r"a= \'b", 3, TextKind::UnclosedQuote),
         (r"a=b:c\\,", 2, TextKind::LoneEscape),
     ] {

@@ -1,7 +1,7 @@
 -- What a call means, at the places where its reading ends.
 use Rattle.std.proofs.Common.{◌≡◌, ℕ, Bool, true, false, List, Option, Some, None, Ok, Err, sym, ◌∙◌, subst, ◌⊎◌, inl, inr}
 use Rattle.graph_text.specs.declared.graph.FilterCall.{FilterCall}
-use Rattle.av_frame.specs.Words.{word_in}
+use Rattle.av_filter.specs.Words.{word_in}
 use Rattle.av_frame.specs.declared.refusals.OptionError.{OptionError}
 use Rattle.av_frame.specs.declared.refusals.OptionError.TheVariants.{NoMemory, NotYet, UnknownFilter}
 use Rattle.node_core.specs.Filters.{frame_filters}

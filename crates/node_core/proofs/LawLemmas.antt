@@ -1,7 +1,7 @@
 -- A call means one filter or has one fault, and a filter has one outcome, always.
 use Rattle.std.proofs.Common.{◌≡◌, Bool, true, false, Option, Some, None, Result, Ok, Err, refl}
 use Rattle.graph_text.specs.declared.graph.FilterCall.{FilterCall}
-use Rattle.av_frame.specs.Words.{word_in}
+use Rattle.av_filter.specs.Words.{word_in}
 use Rattle.av_frame.specs.declared.refusals.OptionError.{OptionError}
 use Rattle.av_frame.specs.declared.refusals.OptionError.TheVariants.{NotYet, UnknownFilter}
 use Rattle.node_core.specs.Filters.{frame_filters}

@@ -1,25 +1,21 @@
--- The filters that work frame by frame, in the order of their names.
-use Rattle.av_frame.specs.RuleSets.{Catalogue, only_filter, with_filter}
-use Rattle.filt_video.specs.Crop.{crop}
-use Rattle.filt_video.specs.Formats.{format_filter}
-use Rattle.filt_video.specs.Hflip.{hflip}
-use Rattle.filt_video.specs.Lutyuv.{lutyuv}
-use Rattle.filt_video.specs.Negate.{negate}
-use Rattle.filt_video.specs.Null.{null}
-use Rattle.filt_video.specs.Pad.{pad}
-use Rattle.filt_video.specs.Shuffleplanes.{shuffleplanes}
-use Rattle.filt_video.specs.Transpose.{transpose}
-use Rattle.filt_video.specs.Vflip.{vflip}
+-- The filters that work frame by frame, by the crates that have them. Each crate has a list of its filters.
+use Rattle.std.specs.Prelude.{refl}
+use Rattle.av_filter.specs.JoinedSets.{joined_filters}
+use Rattle.av_filter.specs.RuleSets.{Catalogue}
+use Rattle.av_filter.specs.Wrappers.{Wrapper, wrapped_filters}
+use Rattle.filt_expr.specs.ExprFilters.{expr_filters}
+use Rattle.filt_video.specs.VideoFilters.{video_filters}
+use Rattle.node_core.specs.declared.filters.FrameFilters.{FrameFilters}
+use Rattle.node_core.specs.declared.filters.FrameOptions.{FrameOptions}
+
+abbrev pub all_filters : Catalogue
+all_filters = joined_filters expr_filters video_filters
+
+abbrev pub in_options : Wrapper all_filters.Options FrameOptions
+in_options = record { inside = λ o. o.options; wrap = λ o. record { options = o }; same = λ o. refl }
+
+abbrev pub in_settings : Wrapper all_filters.Settings FrameFilters
+in_settings = record { inside = λ t. t.rule; wrap = λ r. record { rule = r }; same = λ r. refl }
 
 abbrev pub frame_filters : Catalogue
-frame_filters =
-    with_filter crop (
-    with_filter format_filter (
-    with_filter hflip (
-    with_filter lutyuv (
-    with_filter negate (
-    with_filter null (
-    with_filter pad (
-    with_filter shuffleplanes (
-    with_filter transpose (
-    only_filter vflip)))))))))
+frame_filters = wrapped_filters all_filters in_options in_settings

@@ -2,7 +2,7 @@
 -- are, and what is refused, is this project's own).
 use Rattle.std.specs.Prelude.{◌≡◌, ℕ, true, false, List, [], ◌∷◌, Some, None, codes, Result, Ok, Err}
 use Rattle.graph_text.specs.declared.graph.FilterCall.{FilterCall}
-use Rattle.av_frame.specs.Words.{word_in}
+use Rattle.av_filter.specs.Words.{word_in}
 use Rattle.av_frame.specs.declared.refusals.OptionError.{OptionError}
 use Rattle.av_frame.specs.declared.refusals.OptionError.TheVariants.{UnknownFilter, NotYet}
 use Rattle.node_core.specs.Filters.{frame_filters}

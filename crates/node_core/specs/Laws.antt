@@ -4,8 +4,8 @@ use Rattle.std.specs.Prelude.{◌≡◌, Result}
 use Rattle.av_base.specs.declared.formats.Format.{Format}
 use Rattle.av_base.specs.declared.shapes.Shape.{Shape}
 use Rattle.graph_text.specs.declared.graph.FilterCall.{FilterCall}
-use Rattle.av_frame.specs.Limits.{IsPictureShape}
-use Rattle.av_frame.specs.Outcomes.{HasOne}
+use Rattle.av_base.specs.Shapes.{IsPictureShape}
+use Rattle.av_filter.specs.Outcomes.{HasOne}
 use Rattle.av_frame.specs.declared.refusals.OptionError.{OptionError}
 use Rattle.av_frame.specs.declared.refusals.ConfigError.{ConfigError}
 use Rattle.node_core.specs.Filters.{frame_filters}

@@ -6,7 +6,7 @@ use Rattle.av_base.specs.declared.formats.Media.TheVariants.{Video}
 use Rattle.av_base.specs.declared.formats.Format.{Format}
 use Rattle.av_base.specs.declared.shapes.Shape.{Shape}
 use Rattle.av_frame.specs.Frames.{FrameValue}
-use Rattle.av_frame.specs.Meanings.{IsSettled}
+use Rattle.av_filter.specs.Meanings.{IsSettled}
 use Rattle.av_frame.specs.declared.refusals.ConfigError.{ConfigError}
 use Rattle.node_core.specs.Filters.{frame_filters}
 use Rattle.node_core.specs.declared.kind.Kind.{Kind}

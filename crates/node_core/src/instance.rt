@@ -6,7 +6,8 @@ ghost use Rattle.node_core.specs.Filters.{frame_filters};
 
 use crate::filters::FrameFilters;
 use av_base::NoMemory;
-use av_frame::{Filter, Frame, Framewise, Given, Returned};
+use av_filter::Framewise;
+use av_frame::{Filter, Frame, Given, Returned};
 use std::alloc::Global;
 use std::thread::Threads;
 

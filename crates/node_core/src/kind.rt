@@ -1,17 +1,18 @@
 //! The filter that a call names, with its options.
 ghost use Rattle.std.specs.Prelude.{◌≡◌, ◌↔◌, ◌<◌, ◌^◌, ◌⊎◌, [], ◌∷◌, length, IsTrue, IfOk, IfErr};
 ghost use Rattle.av_base.specs.declared.shapes.Shape.{Shape};
-ghost use Rattle.av_frame.specs.Meanings.{IsOnly};
+ghost use Rattle.av_filter.specs.Meanings.{IsOnly};
 ghost use Rattle.av_frame.specs.declared.refusals.OptionError.TheVariants as option;
 ghost use Rattle.av_frame.specs.declared.refusals.ConfigError.TheVariants as config;
 ghost use Rattle.node_core.specs.Kinds.{IsKind, IsKindFault};
 ghost use Rattle.node_core.specs.Shaping.{video_pads, Takes, IsReady, IsConfigFault};
 
-use crate::filters::FrameFilters;
+use crate::filters::{FrameFilters, FrameOptions};
 use crate::name::later_in;
 use crate::ready::Ready;
 use av_base::{Format, List, Media, NoMemory, Shape};
-use av_frame::{ConfigError, FrameRule, Framewise, OptionError, RuleSet};
+use av_filter::{FrameRule, Framewise, RuleSet};
+use av_frame::{ConfigError, OptionError};
 use graph_plan::Pads;
 use graph_text::FilterCall;
 use std::alloc::Global;
@@ -19,7 +20,7 @@ use std::alloc::Global;
 /// A filter, with its options.
 #[derive(Drop)]
 pub struct Kind {
-    pub(crate) options: <FrameFilters as FrameRule>::Options,
+    pub(crate) options: FrameOptions,
 }
 
 /// One pad for video.

@@ -8,7 +8,7 @@ pub mod law;
 mod name;
 mod ready;
 
-pub use filters::FrameFilters;
+pub use filters::{FrameFilters, FrameOptions};
 pub use instance::{Instance, made_frames_are_lawful};
 pub use kind::Kind;
 pub use ready::Ready;

@@ -1,6 +1,6 @@
 //! Names of filters that are still to be built.
 ghost use Rattle.std.specs.Prelude.{◌≡◌};
-ghost use Rattle.av_frame.specs.Words.{word_in};
+ghost use Rattle.av_filter.specs.Words.{word_in};
 ghost use Rattle.node_core.specs.Kinds.{later_names};
 
 /// A filter that is still to be built.

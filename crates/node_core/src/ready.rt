@@ -2,14 +2,15 @@
 ghost use Rattle.std.specs.Prelude.{◌≡◌, [], ◌∷◌, IfOk};
 ghost use Rattle.av_base.specs.declared.shapes.Shape.{Shape};
 ghost use Rattle.av_frame.specs.FilterLaws.{IsNew, one_to};
-ghost use Rattle.av_frame.specs.Limits.{IsPictured};
+ghost use Rattle.av_base.specs.Shapes.{IsPictured};
 ghost use Rattle.av_frame.specs.Rules.{each_rule};
 ghost use Rattle.node_core.specs.Shaping.{IsConfigured, made_by};
 
 use crate::filters::FrameFilters;
 use crate::instance::Instance;
 use av_base::{List, NoMemory, Shape};
-use av_frame::{Filter, Framewise};
+use av_filter::Framewise;
+use av_frame::Filter;
 use std::alloc::Global;
 use std::marker::Model;
 

@@ -45,7 +45,7 @@ area_grows shape p (suc d) =
     let more = ap (area_before shape) (add-suc p d) ∙ area_before_suc shape (p + d) in
     omega arith
 
--- a plane stands within the picture
+-- a plane is within the picture
 pub area_within : (shape : Shape) (p : ℕ) → p < planes_of shape → area_before shape p + columns_of shape p * rows_of shape p ≤ bytes_of shape
 area_within shape p less =
     let more = area_before_more shape p in

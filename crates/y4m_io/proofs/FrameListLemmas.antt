@@ -36,20 +36,20 @@ split_same (v ∷ vs) [] xs ys e n = absurd (omega arith)
 split_same (v ∷ vs) (b ∷ bs) xs ys e n = split_same vs bs xs ys (cc) (omega arith)
 
 -- What follows leading frames in the text of frames is the text of the other frames.
-pub frames_behind : (shape : Shape) (k : ℕ) (xs ys : List FrameValue) (rest : List ℕ) → AreFramesFrom shape k xs → AreFramesFrom shape k ys → frames_text ys ≡ frames_text xs ++ rest
+pub frames_after : (shape : Shape) (k : ℕ) (xs ys : List FrameValue) (rest : List ℕ) → AreFramesFrom shape k xs → AreFramesFrom shape k ys → frames_text ys ≡ frames_text xs ++ rest
     → (zs : List FrameValue) × AreFramesFrom shape (k + length xs) zs × (rest ≡ frames_text zs)
-frames_behind shape k [] ys rest are ares e = (ys, subst (λ (n : ℕ). AreFramesFrom shape n ys) (let h : k ≡ k + 0 = omega arith in h) ares, sym e)
-frames_behind shape k (x ∷ xs) [] rest are ares e =
+frames_after shape k [] ys rest are ares e = (ys, subst (λ (n : ℕ). AreFramesFrom shape n ys) (let h : k ≡ k + 0 = omega arith in h) ares, sym e)
+frames_after shape k (x ∷ xs) [] rest are ares e =
     absurd (let some = some_frame shape k x are.0 in let n = ap length e in
     let l = length-append (frame_text x.planes ++ frames_text xs) rest in let m = length-append (frame_text x.planes) (frames_text xs) in omega arith)
-frames_behind shape k (x ∷ xs) (y ∷ ys) rest are ares e =
+frames_after shape k (x ∷ xs) (y ∷ ys) rest are ares e =
     let same : length (frame_text y.planes) ≡ length (frame_text x.planes) = length-frame_at shape k y ares.0 ∙ sym (length-frame_at shape k x are.0) in
-    let behind : frames_text ys ≡ frames_text xs ++ rest =
+    let others : frames_text ys ≡ frames_text xs ++ rest =
     split_same (frame_text y.planes) (frame_text x.planes) (frames_text ys) (frames_text xs ++ rest) (e ∙ append_assoc (frame_text x.planes) (frames_text xs) rest) same in
-    let r = frames_behind shape (k + 1) xs ys rest are.1 ares.1 behind in
+    let r = frames_after shape (k + 1) xs ys rest are.1 ares.1 others in
     (r.0, subst (λ (n : ℕ). AreFramesFrom shape n r.0) (let h : (k + 1) + length xs ≡ k + length (x ∷ xs) = omega arith in h) r.1, r.2)
 
--- ---- what stands where no frame is given
+-- ---- what is left if no frame is given
 
 -- what is left isn't the text of frames within the limit, whatever the number of the first
 abbrev pub IsStuck : Shape → ℕ → List ℕ → Type 0

@@ -12,7 +12,7 @@ use Rattle.av_base.specs.declared.shapes.Shape.{Shape}
 use Rattle.av_base.specs.declared.numbers.Ratio.{Ratio}
 use Rattle.av_base.specs.Numbers.{IsLowest}
 use Rattle.av_base.specs.Reduced.{IsReduced}
-use Rattle.y4m_io.specs.Reading.{IsReadable}
+use Rattle.av_base.specs.Shapes.{IsPictured}
 use Rattle.y4m_io.specs.HeaderTexts.{HasNumbers, AreHeaderNumbers, IsHeader, plain_shape, IsWritable}
 use Rattle.y4m_io.proofs.NumeralLemmas.{number_unique}
 
@@ -34,66 +34,66 @@ texts_differ xs ys false e h same = other_text xs ys e same
 
 field_unique : {prefix text rest other : List ℕ} {n m : ℕ} → IsFieldAt prefix text n rest → IsFieldAt prefix text m other → (n ≡ m) × (rest ≡ other)
 field_unique {prefix} {text} {rest} {other} {n} {m} a b =
-    let same : a.behind ≡ b.behind = append_cancel_left prefix a.behind b.behind (sym a.text_is ∙ b.text_is) in
-    let number : IsNumberAt b.behind n rest = rw same at a.number in
+    let same : a.after ≡ b.after = append_cancel_left prefix a.after b.after (sym a.text_is ∙ b.text_is) in
+    let number : IsNumberAt b.after n rest = rw same at a.number in
     number_unique number b.number
 
--- what is behind each number of a header line
-abbrev pub behind_den : List ℕ
-behind_den = codes " C420" ++ 10 ∷ []
+-- what follows each number of a header line
+abbrev pub after_den : List ℕ
+after_den = codes " C420" ++ 10 ∷ []
 
-abbrev pub behind_num : ℕ → List ℕ
-behind_num den = codes ":" ++ (decimal den ++ behind_den)
+abbrev pub after_num : ℕ → List ℕ
+after_num den = codes ":" ++ (decimal den ++ after_den)
 
-abbrev pub behind_height : ℕ → ℕ → List ℕ
-behind_height num den = codes " F" ++ (decimal num ++ behind_num den)
+abbrev pub after_height : ℕ → ℕ → List ℕ
+after_height num den = codes " F" ++ (decimal num ++ after_num den)
 
-abbrev pub behind_width : ℕ → ℕ → ℕ → List ℕ
-behind_width height num den = codes " H" ++ (decimal height ++ behind_height num den)
+abbrev pub after_width : ℕ → ℕ → ℕ → List ℕ
+after_width height num den = codes " H" ++ (decimal height ++ after_height num den)
 
-pub width_field : {line : List ℕ} {width height num den : ℕ} → HasNumbers line width height num den → IsFieldAt (codes "YUV4MPEG2 W") line width (behind_width height num den)
+pub width_field : {line : List ℕ} {width height num den : ℕ} → HasNumbers line width height num den → IsFieldAt (codes "YUV4MPEG2 W") line width (after_width height num den)
 width_field {line} {width} {height} {num} {den} h = record {
-  behind = decimal width ++ behind_width height num den;
+  after = decimal width ++ after_width height num den;
   text_is = h.text;
   number = record { text_is = refl; some = h.width_some; fits = h.width_fits; ends = λ low high. omega arith };
 }
 
-height_field : {line : List ℕ} {width height num den : ℕ} → HasNumbers line width height num den → IsFieldAt (codes " H") (behind_width height num den) height (behind_height num den)
+height_field : {line : List ℕ} {width height num den : ℕ} → HasNumbers line width height num den → IsFieldAt (codes " H") (after_width height num den) height (after_height num den)
 height_field {line} {width} {height} {num} {den} h = record {
-  behind = decimal height ++ behind_height num den;
+  after = decimal height ++ after_height num den;
   text_is = refl;
   number = record { text_is = refl; some = h.height_some; fits = h.height_fits; ends = λ low high. omega arith };
 }
 
-num_field : {line : List ℕ} {width height num den : ℕ} → HasNumbers line width height num den → IsFieldAt (codes " F") (behind_height num den) num (behind_num den)
+num_field : {line : List ℕ} {width height num den : ℕ} → HasNumbers line width height num den → IsFieldAt (codes " F") (after_height num den) num (after_num den)
 num_field {line} {width} {height} {num} {den} h = record {
-  behind = decimal num ++ behind_num den;
+  after = decimal num ++ after_num den;
   text_is = refl;
   number = record { text_is = refl; some = h.num_some; fits = h.num_fits; ends = λ low high. omega arith };
 }
 
-den_field : {line : List ℕ} {width height num den : ℕ} → HasNumbers line width height num den → IsFieldAt (codes ":") (behind_num den) den behind_den
+den_field : {line : List ℕ} {width height num den : ℕ} → HasNumbers line width height num den → IsFieldAt (codes ":") (after_num den) den after_den
 den_field {line} {width} {height} {num} {den} h = record {
-  behind = decimal den ++ behind_den;
+  after = decimal den ++ after_den;
   text_is = refl;
   number = record { text_is = refl; some = h.den_some; fits = h.den_fits; ends = λ low high. omega arith };
 }
 
 -- Where the first fields of a header line were read, the next one is there.
 pub second_field : {line r : List ℕ} {w width height num den : ℕ} → IsFieldAt (codes "YUV4MPEG2 W") line w r → HasNumbers line width height num den
-    → IsFieldAt (codes " H") r height (behind_height num den)
+    → IsFieldAt (codes " H") r height (after_height num den)
 second_field a h = rw ((field_unique a (width_field h)).1) (height_field h)
 
 pub third_field : {line r s : List ℕ} {w v width height num den : ℕ} → IsFieldAt (codes "YUV4MPEG2 W") line w r → IsFieldAt (codes " H") r v s
-    → HasNumbers line width height num den → IsFieldAt (codes " F") s num (behind_num den)
+    → HasNumbers line width height num den → IsFieldAt (codes " F") s num (after_num den)
 third_field a b h = rw ((field_unique b (second_field a h)).1) (num_field h)
 
 pub fourth_field : {line r s t : List ℕ} {w v n width height num den : ℕ} → IsFieldAt (codes "YUV4MPEG2 W") line w r → IsFieldAt (codes " H") r v s
-    → IsFieldAt (codes " F") s n t → HasNumbers line width height num den → IsFieldAt (codes ":") t den behind_den
+    → IsFieldAt (codes " F") s n t → HasNumbers line width height num den → IsFieldAt (codes ":") t den after_den
 fourth_field a b c h = rw ((field_unique c (third_field a b h)).1) (den_field h)
 
 pub last_field : {line r s t u : List ℕ} {w v n d width height num den : ℕ} → IsFieldAt (codes "YUV4MPEG2 W") line w r → IsFieldAt (codes " H") r v s
-    → IsFieldAt (codes " F") s n t → IsFieldAt (codes ":") t d u → HasNumbers line width height num den → u ≡ behind_den
+    → IsFieldAt (codes " F") s n t → IsFieldAt (codes ":") t d u → HasNumbers line width height num den → u ≡ after_den
 last_field a b c d h = (field_unique d (fourth_field a b c h)).1
 
 numbers_unique : {line : List ℕ} {w v n d width height num den : ℕ} → HasNumbers line w v n d → HasNumbers line width height num den
@@ -122,7 +122,7 @@ header_numbers h =
       den_fits = r.den_fits;
     }
 
--- The numbers that were read in a header line are those that tell its shape.
+-- The numbers that were read in a header line are those of its shape.
 pub header_here : {line : List ℕ} {w v n d : ℕ} {shape : Shape} → HasNumbers line w v n d → (h : IsHeader line shape) → AreHeaderNumbers w v n d × IsReduced n d h.rate
 header_here a h =
     let same = numbers_unique a (header_numbers h) in
@@ -144,7 +144,7 @@ base_lawful {num} {den} {rate} r some = (
 )
 
 -- Pictures of the shape of a header line fit into memory.
-pub header_readable : {line : List ℕ} {shape : Shape} → IsHeader line shape → IsReadable shape
+pub header_readable : {line : List ℕ} {shape : Shape} → IsHeader line shape → IsPictured shape
 header_readable {line} {shape} h =
     let r = h.numbers in
     rw h.shape_is (record {
@@ -190,7 +190,7 @@ reduced_unique {num} {den} {r} {s} a b some =
     some_divisor x zero n e h = absurd (omega arith)
     some_divisor x (suc y) n e h = omega arith
 
--- a header line tells one shape
+-- a header line states one shape
 pub shape_unique : {line : List ℕ} {shape other : Shape} → IsHeader line shape → IsHeader line other → shape ≡ other
 shape_unique {line} {shape} {other} h k =
     let same = numbers_unique (header_numbers h) (header_numbers k) in

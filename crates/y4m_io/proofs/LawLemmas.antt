@@ -97,6 +97,6 @@ same_frames shape k (x ∷ xs) (y ∷ ys) a b e =
 pub one_reading : (bytes : List ℕ) (shape other : Shape) (frames others : List FrameValue) → IsFile bytes shape frames → IsFile bytes other others → (other ≡ shape) × (others ≡ frames)
 one_reading bytes shape other frames others a b =
     let same = header_unique (frames_text others) (frames_text frames) b.header a.header (sym b.text ∙ a.text) in
-    let behind : frames_text others ≡ frames_text frames = append_cancel_left b.line (frames_text others) (frames_text frames)
+    let others_text : frames_text others ≡ frames_text frames = append_cancel_left b.line (frames_text others) (frames_text frames)
     (sym b.text ∙ (a.text ∙ ap (λ (z : List ℕ). z ++ frames_text frames) (sym same.0))) in
-    (same.1, same_frames shape 0 others frames (subst (λ (s : Shape). AreFramesFrom s 0 others) same.1 b.are_frames) a.are_frames behind)
+    (same.1, same_frames shape 0 others frames (subst (λ (s : Shape). AreFramesFrom s 0 others) same.1 b.are_frames) a.are_frames others_text)

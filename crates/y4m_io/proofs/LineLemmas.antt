@@ -33,7 +33,7 @@ no_feed_rest x xs none = λ h. none (suc h.0, omega (arith, h.1), h.2)
 no_feed_first : (x : ℕ) (xs : List ℕ) → ¬ Contains (x ∷ xs) 10 → x ≢ 10
 no_feed_first x xs none = λ e. none (0, omega arith, e)
 
--- what stands before the first line feed
+-- what comes before the first line feed
 feed_unique : (xs ys r s : List ℕ) → ¬ Contains xs 10 → ¬ Contains ys 10 → xs ++ 10 ∷ r ≡ ys ++ 10 ∷ s → xs ≡ ys
 feed_unique [] [] r s p q e = refl
 feed_unique [] (y ∷ ys) r s p q e = absurd (no_feed_first y ys q cc)
@@ -176,11 +176,11 @@ header_short {line} {shape} h =
     rw h.text (header_length (decimal h.width) (decimal h.height) (decimal h.num) (decimal h.den) (short_decimal h.width (omega (arith, r.width_fits)))
     (short_decimal h.height (omega (arith, r.height_fits))) (short_decimal h.num r.num_fits) (short_decimal h.den r.den_fits))
 
--- where no line begins, no header does
+-- if no line begins, no header does
 pub no_header_begins : {text : List ℕ} → ¬ BeginsLine text → ¬ BeginsHeader text
 no_header_begins none b = none (record { line = b.line; rest = b.rest; is_line = header_line b.header; short = header_short b.header; text_is = b.text_is })
 
--- where a line begins that is no header, no header does
+-- if a line begins that is no header, no header does
 other_header : {line : List ℕ} (rest : List ℕ) → IsLine line → ((shape : Shape) → IsHeader line shape → ⊥) → ¬ BeginsHeader (line ++ rest)
 other_header {line} rest is none b =
     let same : b.line ≡ line = line_unique b.rest rest (header_line b.header) is (sym b.text_is) in

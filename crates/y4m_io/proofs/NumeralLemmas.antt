@@ -40,7 +40,7 @@ number_unique {text} {rest} {other} {n} {m} a b =
     let t = split_unique (decimal n) (decimal m) rest other (decimal_digits n a.fits) (decimal_digits m b.fits) a.ends b.ends (sym a.text_is ∙ b.text_is) in
     (decimal_injective n m (omega arith) (omega arith) t.0, t.1)
 
--- a text's first digits with no leading zero, and what is behind them
+-- a text's first digits with no leading zero, and what follows them
 pub number_here : (text : List ℕ) (k : ℕ) → AllDigits 10 (take k text) → IsNumberEnd (drop k text) → 0 < length (take k text)
     → digits_value 10 (take k text) < 2 ^ 31 → get_or text 0 0 ≢ 48 → IsNumberAt text (digits_value 10 (take k text)) (drop k text)
 number_here text k d h some fits first =

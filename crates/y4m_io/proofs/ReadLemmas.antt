@@ -1,4 +1,4 @@
--- Reads one after another, and what they tell of the text that was left.
+-- Reads one after another, and what follows of the text that was left.
 use Rattle.std.proofs.Common.{◌≡◌, ◌≢◌, ℕ, ◌+◌, ◌-◌, ◌*◌, ◌/◌, ◌^◌, ◌<◌, ◌≤◌, min, Bool, true, false, not, eqb, List, [], ◌++◌, length, take, drop, set, Some, Result, Ok, Err, ap, sym, ◌∙◌, subst, arith, refl, append_assoc, length-append, ⊎_elim, ℤ, pos}
 use Rattle.std.specs.List.{concat}
 use Rattle.std.specs.Option.{ForSome}
@@ -31,7 +31,7 @@ use Rattle.y4m_io.proofs.FrameLemmas.{area_within, length-planes, length-frame, 
 pub ReadsSome-append : {a b c : World} {id : ℕ} → ReadsSome a b id → ReadsSome b c id → ReadsSome a c id
 ReadsSome-append p q = (p.0 ++ q.0, Reads-append p.1 q.1)
 
--- what was left is what was read, where the input ended
+-- what was left is what was read, if the input ended
 pub all_read : {a c : World} {id : ℕ} {xs : List ℕ} → Reads a c id xs → ForSome (a.inputs.left id) (λ _. c.inputs.left id ≡ Some []) → ForSome (a.inputs.left id) (λ left. left ≡ xs)
 all_read {a} {c} {id} {xs} reads ended = λ left told.
     let none : drop (length xs) left ≡ [] = let p = reads.inputs.left left told in let q = ended left told in cc in
@@ -75,7 +75,7 @@ mark_same n buffer rest b within is same =
 
 -- ---- planes
 
--- so many rows fit into a piece
+-- this number of rows fits into a piece
 pub piece_fits : (k w : ℕ) → k ≤ 65536 / w → k * w ≤ 65536
 piece_fits k w few =
     let rows = mul-le-mul_right w few in
@@ -96,13 +96,14 @@ pub record ReadsRows (old new : World) (id plane row : ℕ) (before now : EditVa
   pub reads : Reads old new id (concat (take row (plane_at now.planes plane).rows))
   pub long : length (concat (take row (plane_at now.planes plane).rows)) ≡ row * columns_of before.shape plane
   pub edit : now ≡ record before { planes = set before.planes plane (plane_at now.planes plane) }
+  pub picture : IsPicture now.shape now.planes
 
 module _ {old new next : World} {id plane row : ℕ} {before now : EditValue} (h : ReadsRows old new id plane row before now) (count n : ℕ) (piece : List ℕ) where
   -- A whole piece was read.
   pub ReadsRows-more : {after : EditValue} → row + count ≤ rows_of before.shape plane → length piece ≡ count * columns_of before.shape plane → length piece ≤ n
       → Reads new next id (take n piece) → after ≡ record now { planes = set now.planes plane (plane_at after.planes plane) }
-      → concat (take (row + count) (plane_at after.planes plane).rows) ≡ concat (take row (plane_at now.planes plane).rows) ++ piece → ReadsRows old next id plane (row + count) before after
-  ReadsRows-more {after} low wide all reads put rows =
+      → concat (take (row + count) (plane_at after.planes plane).rows) ≡ concat (take row (plane_at now.planes plane).rows) ++ piece → IsPicture after.shape after.planes → ReadsRows old next id plane (row + count) before after
+  ReadsRows-more {after} low wide all reads put rows is =
       let both = length-append (concat (take row (plane_at now.planes plane).rows)) piece in
       let area = add-mul row count (columns_of before.shape plane) in
       let so_far = h.long in
@@ -112,6 +113,7 @@ module _ {old new next : World} {id plane row : ℕ} {before now : EditValue} (h
         reads = subst (λ (xs : List ℕ). Reads old next id xs) (sym rows) (Reads-append h.reads (subst (λ (xs : List ℕ). Reads new next id xs) (take_all n piece all) reads));
         long = omega arith;
         edit = one_plane before now after plane h.edit put;
+        picture = is;
       }
 
   -- The input ended within a piece.
@@ -170,7 +172,7 @@ module _ {old new next : World} {id plane : ℕ} {before now : EditValue} (h : R
         ended = ended_after next h.reads read.ended;
       }
 
--- ---- what is found where a frame may begin
+-- ---- what is found at the place of a frame
 
 -- only a part of the first line is left
 truncated_mark : (shape : Shape) (room n : ℕ) → 0 < n → n < 6 → n ≤ room → IsTruncated shape room (take n frame_mark)
@@ -273,7 +275,7 @@ module _ {a c : World} {id room most : ℕ} {got : List ℕ} (shape : Shape) (h 
     },
   )
 
-  -- more bytes follow where the limit is reached
+  -- more bytes follow if the limit is reached
   pub found_last-past : {d : World} (piece : List ℕ) → 0 < length piece → length got ≡ room - most → Reads c d id piece → ReadsSome a d id × ForSome (a.inputs.left id) (IsPastLimit shape room)
   found_last-past {d} piece some all reads =
       let both = Reads-append h.reads reads in (
@@ -300,7 +302,7 @@ same_shape {id} {room} {frames} {stage} {told} {shape} reader view is headed =
     let same : Headed told ≡ Headed shape = sym is ∙ (kept ∙ headed) in
     cc
 
--- The frame that is given and the reader behind it.
+-- The frame that is given and the reader after it.
 frame_given : {old new : World} {id : ℕ} (room frames size : ℕ) (stage : Stage) (shape s : Shape) (edit : EditValue) → stage ≡ Headed shape → Reads old new id (frame_text edit.planes) → edit.shape ≡ shape → s ≡ edit.shape
     → IsPicture edit.shape edit.planes → size ≡ bytes_of shape → frame_size shape ≤ room → 6 * frames + room < 2 ^ 64
     → GivesFrame shape old new (record { id = id; room = room; frames = frames; stage = stage }) (record { id = id; room = room - (6 + size); frames = frames + 1; stage = Headed s })
@@ -323,7 +325,7 @@ frame_given {old} {new} {id} room frames size stage shape s edit headed reads ke
           ∙ ap (λ (t : Stage). record { id = id; room = room - length (frame_text edit.planes); frames = frames + 1; stage = t }) (ap Headed (told ∙ kept) ∙ sym headed);
     }
 
--- the same, of a reader as its value says it
+-- the same, of a reader by its value
 pub gives_frame : {old new : World} {id room frames size : ℕ} {stage : Stage} {told shape s : Shape} {f : FrameValue} (reader : Reading) (edit : EditValue)
     → record { id = id; room = room; frames = frames; stage = stage } ≡ reader → stage ≡ Headed told → reader.stage ≡ Headed shape → Reads old new id (frame_text edit.planes) → edit.shape ≡ told → s ≡ edit.shape
     → IsPicture edit.shape edit.planes → size ≡ bytes_of told → frame_size told ≤ room → 6 * frames + room < 2 ^ 64 → f ≡ record { shape = edit.shape; planes = edit.planes; pts = to_z w64 frames; duration = pos 1 }
@@ -339,7 +341,7 @@ gives_frame {old} {new} {id} {room} {frames} {size} {stage} {told} {shape} {s} {
     (subst (λ (v : FrameValue). GivesFrame shape old new (record { id = id; room = room; frames = frames; stage = stage }) after v) (sym timed)
     (frame_given room frames size stage shape s edit (is ∙ ap Headed same) reads (kept ∙ same) kept' picture (omega arith) (omega arith) few))
 
--- the cause of a refusal
+-- the cause of a failure
 pub refused : {old new : World} {id room frames : ℕ} {stage : Stage} {told shape : Shape} (Cause : Shape → ℕ → List ℕ → Type 0) (reader : Reading) (was : Shape)
     → record { id = id; room = room; frames = frames; stage = stage } ≡ reader → stage ≡ Headed told → reader.stage ≡ Headed shape → was ≡ told → ReadsSome old new id × ForSome (old.inputs.left id) (Cause was room)
     → Refuses old new reader (record { id = id; room = room; frames = frames; stage = Spent }) (Cause shape reader.room)

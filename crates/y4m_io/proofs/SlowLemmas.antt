@@ -23,28 +23,28 @@ more_pictures shape bytes picture size begins is long others are e =
           ∙ sym (append_assoc frame_mark (picture_text found.0) (pictures_text others))),
     )
 
--- what stands behind the first line of frames that there are
-behind_mark : (x : List Raster) (xs : List (List Raster)) (bytes : List ℕ) → bytes ≡ pictures_text (x ∷ xs) → bytes ≡ frame_mark ++ (picture_text x ++ pictures_text xs)
-behind_mark x xs bytes e = e ∙ append_assoc frame_mark (picture_text x) (pictures_text xs)
+-- what follows the first line of frames that there are
+after_mark : (x : List Raster) (xs : List (List Raster)) (bytes : List ℕ) → bytes ≡ pictures_text (x ∷ xs) → bytes ≡ frame_mark ++ (picture_text x ++ pictures_text xs)
+after_mark x xs bytes e = e ∙ append_assoc frame_mark (picture_text x) (pictures_text xs)
 
 pub no_mark : (shape : Shape) (bytes : List ℕ) → 0 < length bytes → ((rest : List ℕ) → bytes ≡ frame_mark ++ rest → ⊥) → (pictures : List (List Raster)) → ArePictures shape pictures → bytes ≡ pictures_text pictures → ⊥
 no_mark shape bytes some none [] are e = let n = ap length e in omega arith
-no_mark shape bytes some none (x ∷ xs) are e = none (picture_text x ++ pictures_text xs) (behind_mark x xs bytes e)
+no_mark shape bytes some none (x ∷ xs) are e = none (picture_text x ++ pictures_text xs) (after_mark x xs bytes e)
 
 -- a picture that isn't whole
 pub short_picture : (shape : Shape) (bytes picture : List ℕ) → bytes ≡ frame_mark ++ picture → length picture < bytes_of shape → (pictures : List (List Raster)) → ArePictures shape pictures → bytes ≡ pictures_text pictures → ⊥
 short_picture shape bytes picture begins short [] are e = let n = ap length (sym begins ∙ e) in omega arith
 short_picture shape bytes picture begins short (x ∷ xs) are e =
-    let same = append_cancel_left frame_mark picture (picture_text x ++ pictures_text xs) (sym begins ∙ behind_mark x xs bytes e) in
+    let same = append_cancel_left frame_mark picture (picture_text x ++ pictures_text xs) (sym begins ∙ after_mark x xs bytes e) in
     let n = ap length same ∙ length-append (picture_text x) (pictures_text xs) in
     let m = length-picture shape x are.0 in
     omega arith
 
--- no frames stand behind the first one
+-- no frames follow the first one
 pub no_others : (shape : Shape) (bytes picture : List ℕ) (size : ℕ) → bytes ≡ frame_mark ++ picture → size ≡ bytes_of shape → size ≤ length picture
     → ((others : List (List Raster)) → ArePictures shape others → drop size picture ≡ pictures_text others → ⊥) → (pictures : List (List Raster)) → ArePictures shape pictures → bytes ≡ pictures_text pictures → ⊥
 no_others shape bytes picture size begins is long none [] are e = let n = ap length (sym begins ∙ e) in omega arith
 no_others shape bytes picture size begins is long none (x ∷ xs) are e =
-    let same = append_cancel_left frame_mark picture (picture_text x ++ pictures_text xs) (sym begins ∙ behind_mark x xs bytes e) in
+    let same = append_cancel_left frame_mark picture (picture_text x ++ pictures_text xs) (sym begins ∙ after_mark x xs bytes e) in
     none xs are.1 (split_same (take size picture) (picture_text x) (drop size picture) (pictures_text xs) (take-append-drop size picture ∙ same)
     (length-take-le size picture long ∙ (is ∙ sym (length-picture shape x are.0))))

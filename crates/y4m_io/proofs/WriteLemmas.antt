@@ -20,9 +20,9 @@ WritesPart-front {a} {b} {id} xs ys (n, h) =
     let e : take m (xs ++ ys) ≡ take n xs = take-append-le m xs ys (omega arith) ∙ take_min n xs in
     (m, subst (λ (z : List ℕ). Changes a b id (appended z)) (sym e) h)
 
--- a text, and a beginning of the text behind it
-pub WritesPart-behind : {a b c : World} {id : ℕ} (xs ys : List ℕ) → Changes a b id (appended xs) → WritesPart b c id ys → WritesPart a c id (xs ++ ys)
-WritesPart-behind {a} {b} {c} {id} xs ys before (n, h) =
+-- a text, and a beginning of the text after it
+pub WritesPart-after : {a b c : World} {id : ℕ} (xs ys : List ℕ) → Changes a b id (appended xs) → WritesPart b c id ys → WritesPart a c id (xs ++ ys)
+WritesPart-after {a} {b} {c} {id} xs ys before (n, h) =
     (length xs + n, subst (λ (z : List ℕ). Changes a c id (appended z)) (sym (take-append-add xs ys n)) (Changes-append xs (take n ys) before h))
 
 -- the rows up to i, and n more
@@ -53,7 +53,7 @@ WritesPart-rows {a} {b} {c} {id} i n rows now piece same is before done =
     let rest = concat (drop n (drop i rows)) in
     let here : piece ≡ next = is ∙ ap (λ (z : List (List ℕ)). concat (take n (drop i z))) same in
     subst (λ (z : List ℕ). WritesPart a c id z) (sym (concat-parts i n rows))
-    (WritesPart-behind (concat (take i rows)) (next ++ rest) before (WritesPart-front next rest (subst (λ (z : List ℕ). WritesPart b c id z) here done)))
+    (WritesPart-after (concat (take i rows)) (next ++ rest) before (WritesPart-front next rest (subst (λ (z : List ℕ). WritesPart b c id z) here done)))
 
 -- the planes before plane p, and that plane
 picture-more : (p : ℕ) (planes : List Raster) → p < length planes → picture_text (take (p + 1) planes) ≡ picture_text (take p planes) ++ concat (plane_at planes p).rows
@@ -86,4 +86,4 @@ WritesPart-plane {a} {b} {c} {id} p planes now same less before done =
     let text = concat (plane_at planes p).rows in
     let rest = picture_text (drop (p + 1) planes) in
     subst (λ (z : List ℕ). WritesPart a c id z) (sym (picture-parts p planes less))
-    (WritesPart-behind (picture_text (take p planes)) (text ++ rest) before (WritesPart-front text rest here))
+    (WritesPart-after (picture_text (take p planes)) (text ++ rest) before (WritesPart-front text rest here))

@@ -1,4 +1,4 @@
--- A written text tells its shape and its frames.
+-- A written text determines its shape and its frames.
 use Rattle.std.proofs.Common.{◌≡◌, ◌<◌, ◌^◌, ℕ, List, [], ◌∷◌, ◌++◌, codes, refl, sym, ◌∙◌, ap, subst, arith, append_assoc}
 use Rattle.std.specs.Fmt.{decimal}
 use Rattle.std.proofs.lemmas.List.{append_cancel_left}
@@ -19,13 +19,13 @@ record IsPart (n : ℕ) : Type 0 where
   some : 0 < n
   fits : n < 2 ^ 31
 
--- numbers behind a prefix
+-- numbers after a prefix
 part_unique : (prefix : List ℕ) (n m : ℕ) (r s : List ℕ) → IsPart n → IsPart m → IsNumberEnd r → IsNumberEnd s → prefix ++ (decimal n ++ r) ≡ prefix ++ (decimal m ++ s) → (n ≡ m) × (r ≡ s)
 part_unique prefix n m r s a b h k e =
     number_unique {text = decimal m ++ s} (record { text_is = sym (append_cancel_left prefix (decimal n ++ r) (decimal m ++ s) e); some = a.some; fits = a.fits; ends = h })
     (record { text_is = refl; some = b.some; fits = b.fits; ends = k })
 
--- what stands behind the rate of a written header
+-- what follows the rate of a written header
 tail : List ℕ
 tail = codes " I" ++ (112 ∷ [] ++ (codes " A" ++ (aspect_text (record { num = 0; den = 1 }) ++ (codes " C" ++ (colour_of Yuv420p ++ 10 ∷ [])))))
 
@@ -41,7 +41,7 @@ spread width height rate rest =
     ∙ (append_assoc (decimal rate.num) (codes ":" ++ (decimal rate.den ++ tail)) rest
     ∙ ap (λ (z : List ℕ). decimal rate.num ++ (codes ":" ++ z)) (append_assoc (decimal rate.den) tail rest)))))
 
--- the numbers of a shape that a header tells
+-- the numbers of a shape that a header states
 record IsTold (shape : Shape) : Type 0 where
   width : ℕ
   height : ℕ

@@ -24,6 +24,6 @@ pub record BeginsFile (bytes : List ℕ) (shape : Shape) (frames : List FrameVal
 abbrev pub open_text : Shape → List FrameValue → List ℕ
 open_text shape frames = header_text shape ++ frames_text frames
 
--- the text of a stream that has ended: after the open text stands an end piece, which is empty
+-- the text of a stream that has ended: the open text, and an end, which is empty
 abbrev pub whole_text : Shape → List FrameValue → List ℕ
 whole_text shape frames = open_text shape frames

@@ -1,4 +1,4 @@
--- Frames and files of YUV4MPEG2, as text. The planes of a frame stand one after another, each by its rows.
+-- Frames and files of YUV4MPEG2, as text. The planes of a frame follow one another, each row by row.
 use Rattle.std.specs.Prelude.{◌≡◌, ◌+◌, ◌<◌, ◌≤◌, ℕ, pos, List, [], ◌∷◌, ◌++◌, map, take, length, codes}
 use Rattle.std.specs.List.{concat}
 use Rattle.av_base.specs.declared.shapes.Shape.{Shape}

@@ -1,5 +1,5 @@
 -- Header lines of YUV4MPEG2 (stream header: the parameters W, H, F, I, A and C).
-use Rattle.std.specs.Prelude.{◌≡◌, ◌<◌, ◌≤◌, ◌^◌, ◌==◌, ℕ, List, [], ◌∷◌, ◌++◌, codes, length, if◌then◌else◌}
+use Rattle.std.specs.Prelude.{◌≡◌, ◌<◌, ◌≤◌, ◌==◌, ℕ, List, [], ◌∷◌, ◌++◌, codes, length, if◌then◌else◌}
 use Rattle.std.specs.Fmt.{decimal}
 use Rattle.av_base.specs.declared.formats.PixelFormat.{PixelFormat}
 use Rattle.av_base.specs.declared.formats.PixelFormat.TheVariants.{Gray, Yuv420p, Yuv422p, Yuv444p, Yuva420p, Yuva422p, Yuva444p}
@@ -11,6 +11,7 @@ use Rattle.av_base.specs.declared.shapes.Props.{Props}
 use Rattle.av_base.specs.declared.shapes.Props.TheVariants as props
 use Rattle.av_base.specs.declared.numbers.Ratio.{Ratio}
 use Rattle.av_base.specs.Reduced.{IsReduced}
+use Rattle.av_base.specs.Bounds.{greatest_side, greatest_picture, number_bound}
 use Rattle.av_base.specs.Planes.{picture_bytes_of}
 use Rattle.av_base.specs.Shapes.{IsLawful, IsVideo, IsWithinLimits}
 
@@ -21,17 +22,17 @@ abbrev pub plain_header : ℕ → ℕ → ℕ → ℕ → List ℕ
 plain_header width height num den =
     codes "YUV4MPEG2 W" ++ (decimal width ++ (codes " H" ++ (decimal height ++ (codes " F" ++ (decimal num ++ (codes ":" ++ (decimal den ++ (codes " C420" ++ 10 ∷ []))))))))
 
--- the line has these numbers, each from 1 to 2^31 - 1
+-- the line has these numbers, each more than 0 and below the bound
 pub record HasNumbers (line : List ℕ) (width height num den : ℕ) : Type 0 where
   pub text : line ≡ plain_header width height num den
   pub width_some : 0 < width
-  pub width_fits : width < 2 ^ 31
+  pub width_fits : width < number_bound
   pub height_some : 0 < height
-  pub height_fits : height < 2 ^ 31
+  pub height_fits : height < number_bound
   pub num_some : 0 < num
-  pub num_fits : num < 2 ^ 31
+  pub num_fits : num < number_bound
   pub den_some : 0 < den
-  pub den_fits : den < 2 ^ 31
+  pub den_fits : den < number_bound
 
 -- the shape of a file of this size and rate: progressive, of an unknown aspect, with a tick a frame
 abbrev pub plain_shape : ℕ → ℕ → Ratio → Shape
@@ -50,16 +51,16 @@ plain_shape width height rate = record {
 -- the numbers of a header line, each in its range
 pub record AreHeaderNumbers (width height num den : ℕ) : Type 0 where
   pub width_some : 0 < width
-  pub width_fits : width ≤ 8192
+  pub width_fits : width ≤ greatest_side
   pub height_some : 0 < height
-  pub height_fits : height ≤ 8192
-  pub bytes_fit : picture_bytes_of Yuv420p width height ≤ 2 ^ 26
+  pub height_fits : height ≤ greatest_side
+  pub bytes_fit : picture_bytes_of Yuv420p width height ≤ greatest_picture
   pub num_some : 0 < num
-  pub num_fits : num < 2 ^ 31
+  pub num_fits : num < number_bound
   pub den_some : 0 < den
-  pub den_fits : den < 2 ^ 31
+  pub den_fits : den < number_bound
 
--- a whole header line, and the shape that it tells
+-- a whole header line, and the shape that it states
 pub record IsHeader (line : List ℕ) (shape : Shape) : Type 0 where
   pub width : ℕ
   pub height : ℕ

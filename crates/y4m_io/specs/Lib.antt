@@ -1,3 +1,4 @@
+pub mod Sizes
 pub mod Numerals
 pub mod HeaderTexts
 pub mod FrameTexts

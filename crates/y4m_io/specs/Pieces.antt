@@ -7,6 +7,7 @@ use Rattle.av_host.specs.World.{World}
 use Rattle.av_host.specs.Calls.{Reads}
 use Rattle.av_frame.specs.Frames.{EditValue, plane_at}
 use Rattle.av_host.specs.HostRuns.{ReadsSome}
+use Rattle.y4m_io.specs.Sizes.{longest_line}
 use Rattle.y4m_io.specs.FrameTexts.{frame_mark, picture_text, frame_text, IsBadFrame, IsTruncated, IsPastLimit}
 use Rattle.y4m_io.specs.declared.reader.Line.{Line}
 use Rattle.y4m_io.specs.declared.reader.Line.TheVariants.{Whole, Unended, PastLimit}
@@ -23,22 +24,22 @@ pub record IsLine (line : List ℕ) : Type 0 where
   pub line_is : line ≡ body ++ 10 ∷ []
   pub no_feed : ¬ Contains body 10
 
--- the text begins with a line of at most 1,024 bytes
+-- the text begins with a line that isn't longer than a header line may be
 pub record BeginsLine (text : List ℕ) : Type 0 where
   pub line : List ℕ
   pub rest : List ℕ
   pub is_line : IsLine line
-  pub short : length line ≤ 1024
+  pub short : length line ≤ longest_line
   pub text_is : text ≡ line ++ rest
 
--- what was found where a line was looked for, in a buffer
+-- what the reading of a line found, in a buffer
 abbrev pub GivesLine : World → World → ℕ → ℕ → List ℕ → Line → Type 0
 GivesLine old new id room buffer (Whole n) =
-    Reads old new id (take n buffer) × IsLine (take n buffer) × (n ≤ length buffer) × (n ≤ room) × (n ≤ 1024)
+    Reads old new id (take n buffer) × IsLine (take n buffer) × (n ≤ length buffer) × (n ≤ room) × (n ≤ longest_line)
 GivesLine old new id room buffer Unended =
     ReadsSome old new id × ForSome (old.inputs.left id) (λ left. ¬ BeginsLine (take room left))
 GivesLine old new id room buffer PastLimit =
-    ReadsSome old new id × (room < 1024) × ForSome (old.inputs.left id) (λ left. (room < length left) × ¬ BeginsLine (take room left))
+    ReadsSome old new id × (room < longest_line) × ForSome (old.inputs.left id) (λ left. (room < length left) × ¬ BeginsLine (take room left))
 
 -- Only the plane changed, and all its rows were read.
 pub record ReadsWholePlane (old new : World) (id plane : ℕ) (before after : EditValue) : Type 0 where
@@ -72,7 +73,7 @@ GivesMark old new id most mark.Differs = (got : List ℕ) × Reads old new id go
 GivesMark old new id most (mark.Ended n) =
     Reads old new id (take n frame_mark) × (n < most) × ForSome (old.inputs.left id) (λ _. new.inputs.left id ≡ Some [])
 
--- what was found where a frame may begin, of an input of which `room` bytes are within the limit
+-- what was found at the place of a frame, of an input of which `room` bytes are within the limit
 abbrev pub Finds : World → World → ℕ → ℕ → EditValue → EditValue → Found → Type 0
 Finds old new id room before after found.Frame = Reads old new id (frame_text after.planes) × (after.shape ≡ before.shape)
 Finds old new id room before after found.End = Reads old new id [] × ForSome (old.inputs.left id) (λ left. left ≡ [])

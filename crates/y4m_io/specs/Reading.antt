@@ -2,7 +2,6 @@
 use Rattle.std.specs.Prelude.{◌≡◌, ◌+◌, ◌-◌, ◌<◌, ◌≤◌, ℕ, List, [], take, length, Option, Some, None, Result, Ok, Err}
 use Rattle.std.specs.Option.{ForSome}
 use Rattle.av_base.specs.declared.shapes.Shape.{Shape}
-use Rattle.av_base.specs.Shapes.{IsLawful, IsVideo, IsWithinLimits}
 use Rattle.av_host.specs.World.{World, Faults}
 use Rattle.av_host.specs.Calls.{Reads, RaisesReads}
 use Rattle.av_frame.specs.declared.faults.HeadError.{HeadError}
@@ -10,33 +9,29 @@ use Rattle.av_frame.specs.declared.faults.HeadError.TheVariants as head
 use Rattle.av_frame.specs.declared.faults.NextError.{NextError}
 use Rattle.av_frame.specs.declared.faults.NextError.TheVariants as next
 use Rattle.av_frame.specs.Frames.{FrameValue}
+use Rattle.av_base.specs.Shapes.{IsPictured}
 use Rattle.av_host.specs.HostRuns.{ReadsSome}
+use Rattle.y4m_io.specs.Sizes.{longest_line}
 use Rattle.y4m_io.specs.HeaderTexts.{IsHeader, BeginsHeader}
 use Rattle.y4m_io.specs.FrameTexts.{frame_text, IsFrameAt, IsBadFrame, IsTruncated, IsPastLimit}
 use Rattle.y4m_io.specs.declared.y4m_state.Stage.{Stage}
 use Rattle.y4m_io.specs.declared.y4m_state.Stage.TheVariants.{Fresh, Headed, Spent}
 
--- A reader stands for what is left of its input. `room` is how many of these bytes are within the limit, and `frames`
--- how many frames it has given.
+-- A reader means what is left of its input. `room` is how many of these bytes are within the limit, and `frames` how
+-- many frames it has given.
 pub record Reading : Type 0 where
   pub id : ℕ
   pub room : ℕ
   pub frames : ℕ
   pub stage : Stage
 
--- pictures of the shape fit into memory
-pub record IsReadable (shape : Shape) : Type 0 where
-  pub lawful : IsLawful shape
-  pub video : IsVideo shape.format
-  pub limits : IsWithinLimits shape
-
 -- a reader that has read its header knows a shape that it can read
 abbrev pub IsSound : Stage → Type 0
 IsSound Fresh = Unit {0}
-IsSound (Headed shape) = IsReadable shape
+IsSound (Headed shape) = IsPictured shape
 IsSound Spent = Unit {0}
 
--- the reader has read its header, and no call was refused
+-- the reader has read its header, and no call has failed
 abbrev pub IsHeaded : Stage → Type 0
 IsHeaded (Headed shape) = Unit {0}
 IsHeaded other = ⊥
@@ -51,7 +46,7 @@ pub record GivesHeader (old new : World) (reader after : Reading) (shape : Shape
   pub within : length line ≤ reader.room
   pub after_is : after ≡ record reader { room = reader.room - length line; stage = Headed shape }
 
--- The reader is spent, and what it stood for is as `Cause` says where the host tells it.
+-- The reader is spent, and `Cause` holds for what was left, if the host knows that.
 pub record Refuses (old new : World) (reader after : Reading) (Cause : List ℕ → Type 0) : Type 0 where
   pub reads : ReadsSome old new reader.id
   pub after_is : after ≡ record reader { stage = Spent }
@@ -63,7 +58,7 @@ IsBadHeader room left = ¬ BeginsHeader (take room left)
 
 -- nor does the input end within the limit, which is less than a header line may have
 abbrev pub IsHeaderTooLong : ℕ → List ℕ → Type 0
-IsHeaderTooLong room left = (room < 1024) × (room < length left) × ¬ BeginsHeader (take room left)
+IsHeaderTooLong room left = (room < longest_line) × (room < length left) × ¬ BeginsHeader (take room left)
 
 abbrev pub Heads : World → World → Reading → Reading → Result Shape HeadError → Type 0
 Heads old new reader after (Ok shape) = GivesHeader old new reader after shape

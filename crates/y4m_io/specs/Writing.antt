@@ -18,7 +18,7 @@ pub record Writing : Type 0 where
   pub shape : Shape
   pub progress : Progress
 
--- The text was added to the output. After a refusal it is a beginning of the text, and the writer is spent.
+-- The text was added to the output. After a failure a beginning of the text was added, and the writer is spent.
 abbrev pub Writes : World → World → Writing → Writing → List ℕ → Progress → Result (Unit {0}) WriteError → Type 0
 Writes old new writer after text progress (Ok done) = Changes old new writer.id (appended text) × (after ≡ record writer { progress = progress })
 Writes old new writer after text progress (Err e) = WritesPart old new writer.id text × (after ≡ record writer { progress = Spent })
@@ -28,7 +28,7 @@ abbrev pub CountsWrite : Result (Unit {0}) WriteError → Faults → Faults → 
 CountsWrite (Err Host) old new = RaisesWrites old new
 CountsWrite other old new = new ≡ old
 
--- what a writer returns where the host refused
+-- what a writer returns if the host failed
 abbrev pub write_error_of : HostError → WriteError
 write_error_of Failed = Host
 write_error_of host.NoMemory = NoMemory

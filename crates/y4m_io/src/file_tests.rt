@@ -32,9 +32,9 @@ pub(crate) const FRAME: usize = 18;
 /// What ended a copy before its end.
 #[derive(Clone, Copy, Debug, PartialEq, Eq)]
 pub(crate) enum Refused {
-    /// The header was refused.
+    /// The header was rejected.
     Head(HeadError),
-    /// A frame was refused.
+    /// A frame was rejected.
     Next(NextError),
     /// A text was not written to its end.
     Write(WriteError),
@@ -108,7 +108,7 @@ fn write_frames<H: Host>(
     copy_frames(alloc, host, reader, &mut writer, &mut pools, shape)
 }
 
-/// Writes `b.y4m`, with the frames of `a.y4m`, of which so many bytes may be read.
+/// Writes `b.y4m`, with the frames of `a.y4m`, of which at most `limit` bytes are read.
 pub(crate) fn copy_file<H: Host>(alloc: Global, host: &mut H, limit: u64) -> Result<(), Refused> {
     let Ok(id) = host.open_input("a.y4m") else {
         return Err(Refused::Other);

@@ -1,19 +1,21 @@
 //! The header line that is read, and the one that is written.
-ghost use Rattle.std.specs.Prelude.{◌≡◌, ◌<◌, ◌≤◌, ◌^◌, List, ℕ, [], ◌∷◌, ◌++◌, take, drop, length, codes, IfOk, IfSome, IsNone, SomeIff, string_bytes, encode_utf8};
+ghost use Rattle.std.specs.Prelude.{◌≡◌, ◌<◌, ◌≤◌, List, ℕ, [], ◌∷◌, ◌++◌, take, drop, length, codes, IfOk, IfSome, IsNone, SomeIff, string_bytes, encode_utf8};
 ghost use Rattle.std.specs.Fmt.{decimal};
 ghost use Rattle.std.specs.Str.Parse.{AllDigits, digits_value};
 ghost use Rattle.av_base.specs.declared.shapes.Shape.{Shape};
+ghost use Rattle.av_base.specs.Bounds.{number_bound};
 ghost use Rattle.y4m_io.specs.HeaderTexts.{IsHeader, HasNumbers, IsWritable, plain_shape, colour_of, ratio_text, header_text};
 ghost use Rattle.y4m_io.specs.Numerals.{IsNumberAt, IsNumberEnd, IsFieldAt};
 
-use crate::y4m_limits::{BYTES_MAX, NUMBER_MAX, SIZE_MAX};
+use crate::y4m_limits::NUMBER_MAX;
 use av_base::{
-    Format, NoMemory, PixelFormat, Props, Ratio, Shape, TimeBase, VideoProps, picture_bytes, reduce,
+    Format, NoMemory, PICTURE_MAX, PixelFormat, Props, Ratio, SIDE_MAX, Shape, TimeBase,
+    VideoProps, picture_bytes, reduce,
 };
 use std::alloc::{AllocError, Global};
 
-/// The number that the text begins with, in decimal digits without a leading zero, from 1 to 2^31 - 1, and the text
-/// after it.
+/// The number that the text begins with, in decimal digits without a leading zero, more than 0 and below
+/// `number_bound`, and the text after it.
 fn number(text: &[u8]) -> Option<(u32, &[u8])>
     ensures found { IfSome result (λ p. IsNumberAt text.now p.0 p.1.now) }
     ensures none { IsNone result → (n : ℕ) (rest : List ℕ) → IsNumberAt text.now n rest → ⊥ }
@@ -40,10 +42,10 @@ fn digits_of(text: &[u8]) -> usize
     text.len()
 }
 
-/// The value of decimal digits, or none where there is no digit or the value passes 2^31 - 1.
+/// The value of decimal digits, or none if there is no digit or the value isn't below `number_bound`.
 fn value_of(digits: &[u8]) -> Option<u32>
     requires { AllDigits 10 digits.now }
-    ensures { SomeIff result ((0 < length digits.now) × (digits_value 10 digits.now < 2 ^ 31)) (digits_value 10 digits.now) }
+    ensures { SomeIff result ((0 < length digits.now) × (digits_value 10 digits.now < number_bound)) (digits_value 10 digits.now) }
 {
     if digits.is_empty() {
         return None;
@@ -83,13 +85,10 @@ fn field<'a>(text: &'a [u8], prefix: &[u8]) -> Option<(u32, &'a [u8])>
     ensures found { IfSome result (λ p. IsFieldAt prefix.now text.now p.0 p.1.now) }
     ensures none { IsNone result → (n : ℕ) (rest : List ℕ) → IsFieldAt prefix.now text.now n rest → ⊥ }
 {
-    match after(text, prefix) {
-        Some(behind) => number(behind),
-        None => None,
-    }
+    number(after(text, prefix)?)
 }
 
-/// The numbers of a header line, which ends with its line feed, or none where the line is outside the form.
+/// The numbers of a header line, which ends with its line feed, or none if the line is outside the form.
 fn read_numbers(line: &[u8]) -> Option<Numbers>
     ensures found { IfSome result (λ n. HasNumbers line.now n.width n.height n.num n.den) }
     ensures none { IsNone result → (width height num den : ℕ) → HasNumbers line.now width height num den → ⊥ }
@@ -109,7 +108,7 @@ fn read_numbers(line: &[u8]) -> Option<Numbers>
     })
 }
 
-/// The shape that a header line tells, or none where the line, which ends with its line feed, is outside the form.
+/// The shape of a header line, or none if the line, which ends with its line feed, is outside the form.
 pub(crate) fn read_header(line: &[u8]) -> Option<Shape>
     ensures shape { IfSome result (IsHeader line.now) }
     ensures none { IsNone result → (shape : Shape) → IsHeader line.now shape → ⊥ }
@@ -121,10 +120,10 @@ pub(crate) fn read_header(line: &[u8]) -> Option<Shape>
         num,
         den,
     } = numbers;
-    if width > SIZE_MAX || height > SIZE_MAX {
+    if width > SIDE_MAX || height > SIDE_MAX {
         return None;
     }
-    if picture_bytes(PixelFormat::Yuv420p, width, height) > BYTES_MAX {
+    if picture_bytes(PixelFormat::Yuv420p, width, height) > PICTURE_MAX {
         return None;
     }
     let rate = reduce(u128::from(num), u128::from(den))?;
@@ -172,14 +171,14 @@ fn ratio(alloc: Global, num: u32, den: u32) -> Result<String, AllocError>
     format!(in alloc; "{num}:{den}")
 }
 
-/// The part of the header line that tells the size and the rate.
+/// The part of the header line with the size and the rate.
 fn size_part(alloc: Global, width: u32, height: u32, rate: &str) -> Result<String, AllocError>
     ensures { IfOk result (λ text. string_bytes text ≡ codes "YUV4MPEG2 W" ++ (decimal width ++ (codes " H" ++ (decimal height ++ (codes " F" ++ rate.now))))) }
 {
     format!(in alloc; "YUV4MPEG2 W{width} H{height} F{rate}")
 }
 
-/// The part of the header line that tells the order of the fields, the aspect and the colour.
+/// The part of the header line with the order of the fields, the aspect and the colour.
 fn form_part(alloc: Global, scan: char, aspect: &str, colour: &str) -> Result<String, AllocError>
     ensures { IfOk result (λ text. string_bytes text ≡ codes " I" ++ (encode_utf8 scan ++ (codes " A" ++ (aspect.now ++ (codes " C" ++ (colour.now ++ 10 ∷ [])))))) }
 {
@@ -221,7 +220,7 @@ mod tests {
     use av_base::Ratio;
 
     #[test]
-    fn header_lines_tell_their_shape(rt: HostRuntime) {
+    fn header_lines_state_their_shape(rt: HostRuntime) {
         for (line, width, height, num, den) in [
             ("YUV4MPEG2 W4 H2 F25:1 C420\n", 4, 2, 25, 1),
             ("YUV4MPEG2 W4 H2 F50:2 C420\n", 4, 2, 25, 1),

@@ -1,4 +1,4 @@
-//! The law of files: what stands for frames is read as these frames, and in no other way.
+//! The law of files: the text of frames is read as these frames, and in no other way.
 ghost use Rattle.std.specs.Prelude.{◌≡◌, ◌++◌, ℕ, List};
 ghost use Rattle.av_base.specs.declared.shapes.Shape.{Shape};
 ghost use Rattle.av_frame.specs.Frames.{FrameValue};
@@ -10,7 +10,7 @@ ghost use Rattle.y4m_io.specs.Files.{IsFile, whole_text};
 ///
 /// A header line of the form with the text of frames after it is a file of that shape and these frames, and bytes that
 /// are a file of a shape and of frames are a file of no other shape and no other samples and times. The whole text that is
-/// written of a shape that a header tells and of frames is that of no other such shape and no other frames.
+/// written of a shape that a header states and of frames is that of no other such shape and no other frames.
 pub fn files_have_one_reading()
     ensures file { (line : List ℕ) (shape : Shape) (frames : List FrameValue) → IsHeader line shape → AreFramesFrom shape 0 frames
         → IsFile (line ++ frames_text frames) shape frames }

@@ -1,7 +1,7 @@
 //! Files of YUV4MPEG2: a reader that gives the frames of an open input, and a writer of frames to an output.
 //!
 //! In layers: the limits of a file (`y4m_limits`) and how far a reader or a writer is (`y4m_state`), header lines
-//! (`header`), rows of a plane (`rows`), and the reader and the writer. The law of files stands in `law`.
+//! (`header`), rows of a plane (`rows`), and the reader and the writer. The law of files is in `law`.
 #![tactic(auto)]
 
 mod header;

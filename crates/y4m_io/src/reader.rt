@@ -2,9 +2,11 @@
 ghost use Rattle.std.specs.Prelude.{◌≡◌, ◌≢◌, ◌+◌, ◌*◌, ◌<◌, ◌≤◌, ◌^◌, ◌++◌, [], Some, ◌∷◌, Ok, ℕ, List, take, length, IfOk, IfSome, OnErr, IsTrue, IsSome, MatchResult, Contains};
 ghost use Rattle.std.specs.Option.{ForSome, option_to_list};
 ghost use Rattle.av_base.specs.declared.shapes.Shape.{Shape};
+ghost use Rattle.av_base.specs.Bounds.{greatest_side};
 ghost use Rattle.av_base.specs.Shapes.{planes_of, columns_of, IsWithinLimits};
 ghost use Rattle.av_host.specs.Calls.{Stays, Reads, RaisesReads};
 ghost use Rattle.av_host.specs.HostRuns.{ReadsSome};
+ghost use Rattle.y4m_io.specs.Sizes.{piece_size};
 ghost use Rattle.y4m_io.specs.FrameTexts.{frame_size};
 ghost use Rattle.y4m_io.specs.Pieces.{GivesLine, ReadsPlane, ReadsPicture, GivesMark, Finds};
 ghost use Rattle.y4m_io.specs.Reading.{Heads, CountsHead, IsHeaded, Gives, CountsNext};
@@ -20,9 +22,9 @@ use av_host::{Failed, Host, fill};
 use std::alloc::Global;
 use std::marker::Model;
 
-/// What was found where a line was looked for.
+/// What the reading of a line found.
 enum Line {
-    /// A line of so many bytes, with its line feed.
+    /// A line of this many bytes, with its line feed.
     Whole(usize),
     /// The input ends before a line feed, or the line is longer than a header may be.
     Unended,
@@ -40,15 +42,15 @@ enum Ending {
 
 /// How much of a frame's first line was there.
 enum Mark {
-    /// All bytes that were looked for, and they are the line's.
+    /// All bytes that were asked for, and they are the line's.
     Whole,
     /// Some byte is another than the line's.
     Differs,
-    /// The input ended after so many of the line's bytes.
+    /// The input ended after this many of the line's bytes.
     Ended(usize),
 }
 
-/// What was found where a frame may begin.
+/// What was found at the place of a frame.
 enum Found {
     /// A whole frame.
     Frame,
@@ -76,15 +78,16 @@ pub struct Reader {
 impl Model for Reader {
     ghost use Rattle.std.specs.Prelude.{◌≡◌, ◌+◌, ◌*◌, ◌<◌, ◌^◌, vec_len};
     ghost use Rattle.y4m_io.specs.Reading.{Reading, IsSound};
+    ghost use Rattle.y4m_io.specs.Sizes.{piece_size};
 
     ghost Value = { Reading };
 
     ghost view = { λ r. record { id = r.id; room = r.room; frames = r.frames; stage = r.stage } };
 
-    ghost invariant = { λ r. (vec_len r.buffer ≡ 65536) × (6 * r.frames + r.room < 2 ^ 64) × IsSound r.stage };
+    ghost invariant = { λ r. (vec_len r.buffer ≡ piece_size) × (6 * r.frames + r.room < 2 ^ 64) × IsSound r.stage };
 }
 
-/// Reads a byte into a place of the buffer. There is none at the end of the input alone.
+/// Reads a byte into a place of the buffer. There is none only at the end of the input.
 fn read_byte<H: Host>(
     host: &mut H,
     id: u32,
@@ -109,7 +112,7 @@ fn read_byte<H: Host>(
 /// Reads a line byte by byte, of at most `LINE_MAX` bytes and at most `room`.
 fn read_line<H: Host>(host: &mut H, id: u32, room: u64, buffer: &mut [u8]) -> Result<Line, Failed>
     requires id { IsTrue ((H.world host.old).inputs.is_open id) }
-    requires long { length buffer.old ≡ 65536 }
+    requires long { length buffer.old ≡ piece_size }
     ensures line { IfOk result (GivesLine (H.world host.old) (H.world host.new) id room buffer.new) }
     ensures refused { OnErr result (ReadsSome (H.world host.old) (H.world host.new) id) }
     ensures faults { MatchResult result (λ _. (H.world host.new).faults ≡ (H.world host.old).faults)
@@ -142,8 +145,8 @@ fn read_plane<H: Host>(
 ) -> Result<Ending, Failed>
     requires id { IsTrue ((H.world host.old).inputs.is_open id) }
     requires plane { plane < planes_of edit.old.shape }
-    requires narrow { columns_of edit.old.shape plane ≤ 8192 }
-    requires long { length buffer.old ≡ 65536 }
+    requires narrow { columns_of edit.old.shape plane ≤ greatest_side }
+    requires long { length buffer.old ≡ piece_size }
     ensures read { IfOk result (ReadsPlane (H.world host.old) (H.world host.new) id plane edit.old edit.new) }
     ensures refused { OnErr result (ReadsSome (H.world host.old) (H.world host.new) id) }
     ensures faults { MatchResult result (λ _. (H.world host.new).faults ≡ (H.world host.old).faults)
@@ -162,8 +165,6 @@ fn read_plane<H: Host>(
         put_rows(edit, plane, row, count, piece);
         row += count;
     }
-    // It tells the proof that the plane has as many rows as before.
-    let _shape = edit.shape();
     Ok(Ending::Whole)
 }
 
@@ -175,8 +176,8 @@ fn read_picture<H: Host>(
     buffer: &mut [u8],
 ) -> Result<Ending, Failed>
     requires id { IsTrue ((H.world host.old).inputs.is_open id) }
-    requires narrow { (p : ℕ) → p < planes_of edit.old.shape → columns_of edit.old.shape p ≤ 8192 }
-    requires long { length buffer.old ≡ 65536 }
+    requires narrow { (p : ℕ) → p < planes_of edit.old.shape → columns_of edit.old.shape p ≤ greatest_side }
+    requires long { length buffer.old ≡ piece_size }
     ensures read { IfOk result (ReadsPicture (H.world host.old) (H.world host.new) id edit.old edit.new) }
     ensures refused { OnErr result (ReadsSome (H.world host.old) (H.world host.new) id) }
     ensures faults { MatchResult result (λ _. (H.world host.new).faults ≡ (H.world host.old).faults)
@@ -192,10 +193,10 @@ fn read_picture<H: Host>(
     Ok(Ending::Whole)
 }
 
-/// Reads and drops at most so many bytes, and returns how many there were. They are fewer only where the input ends.
+/// Reads and drops at most `most` bytes, and returns how many there were. They are fewer only if the input ends.
 fn skip<H: Host>(host: &mut H, id: u32, most: u64, buffer: &mut [u8]) -> Result<u64, Failed>
     requires id { IsTrue ((H.world host.old).inputs.is_open id) }
-    requires long { length buffer.old ≡ 65536 }
+    requires long { length buffer.old ≡ piece_size }
     ensures read { IfOk result (λ n. (got : List ℕ) × (length got ≡ n) × Reads (H.world host.old) (H.world host.new) id got) }
     ensures within { IfOk result (λ n. n ≤ most) }
     ensures end { IfOk result (λ n. n < most → ForSome ((H.world host.old).inputs.left id) (λ _. (H.world host.new).inputs.left id ≡ Some [])) }
@@ -235,7 +236,7 @@ fn read_mark<H: Host>(host: &mut H, id: u32, most: usize) -> Result<Mark, Failed
     Ok(Mark::Whole)
 }
 
-/// Finds how the input goes on where the limit leaves no room for a frame of the edit's shape.
+/// Finds how the input goes on if the limit leaves no room for a frame of the edit's shape.
 fn read_last<H: Host>(
     host: &mut H,
     id: u32,
@@ -244,7 +245,7 @@ fn read_last<H: Host>(
     buffer: &mut [u8],
 ) -> Result<Found, Failed>
     requires id { IsTrue ((H.world host.old).inputs.is_open id) }
-    requires long { length buffer.old ≡ 65536 }
+    requires long { length buffer.old ≡ piece_size }
     requires room { room < frame_size _edit.now.shape }
     ensures found { IfOk result (Finds (H.world host.old) (H.world host.new) id room _edit.now _edit.now) }
     ensures no_frame { result ≢ Ok Found.Frame }
@@ -271,7 +272,7 @@ fn read_last<H: Host>(
     Ok(if room == 0 { Found::End } else { Found::Short })
 }
 
-/// Finds how the input goes on, and reads the frame where one is whole within the limit.
+/// Finds how the input goes on, and reads the frame if one is whole within the limit.
 fn read_frame<H: Host>(
     host: &mut H,
     id: u32,
@@ -281,7 +282,7 @@ fn read_frame<H: Host>(
 ) -> Result<Found, Failed>
     requires id { IsTrue ((H.world host.old).inputs.is_open id) }
     requires limits { IsWithinLimits edit.old.shape }
-    requires long { length buffer.old ≡ 65536 }
+    requires long { length buffer.old ≡ piece_size }
     ensures found { IfOk result (Finds (H.world host.old) (H.world host.new) id room edit.old edit.new) }
     ensures within { result ≡ Ok Found.Frame → frame_size edit.old.shape ≤ room }
     ensures refused { OnErr result (ReadsSome (H.world host.old) (H.world host.new) id) }
@@ -320,11 +321,12 @@ impl Reader {
         })
     }
 
-    /// Reads the header line, and returns the shape that it tells.
+    /// Reads the header line, and returns its shape.
     ///
     /// # Errors
-    /// `BadHeader` where no header line of the form stands within the limit, `TooLong` where the line isn't over within
-    /// a limit of less than 1,024 bytes and more bytes follow, and `Host` exactly where the host's count of reads rose. The reader is spent then.
+    /// `BadHeader` if no header line of the form is within the limit, `TooLong` if the line isn't over within a limit
+    /// that is less than a line may have and more bytes follow, and `Host` exactly if the host's count of reads rose.
+    /// The reader is spent then.
     pub fn header<H: Host>(&mut self, _alloc: Global, host: &mut H) -> Result<Shape, HeadError>
         requires id { IsTrue ((H.world host.old).inputs.is_open self.old.id) }
         requires fresh { self.old.stage ≡ Stage.Fresh }
@@ -348,14 +350,14 @@ impl Reader {
         }
     }
 
-    /// Reads the next frame, in the order of the file: frame k has the pts k and the duration 1. None says that the input
-    /// ended after the frame before it.
+    /// Reads the next frame, in the order of the file: frame k has the pts k and the duration 1. None means that the
+    /// input ended after the frame before it.
     ///
     /// # Errors
-    /// `BadFrame` where what stands within the limit is no frame whatever follows, `Truncated` where the input ends
-    /// within a frame, `TooLong` where the limit comes before the frame's end and more bytes follow, and `Host` exactly
-    /// where the host's count of reads rose; the reader is spent then. After `NoMemory`, out of memory, it stands for
-    /// the same rest of its input, and the call can be made again.
+    /// `BadFrame` if what is within the limit is no frame whatever follows, `Truncated` if the input ends within a
+    /// frame, `TooLong` if the limit comes before the frame's end and more bytes follow, and `Host` exactly if the
+    /// host's count of reads rose; the reader is spent then. After `NoMemory`, out of memory, the same rest of the
+    /// input is left, and the call can be made again.
     pub fn next<H: Host>(
         &mut self,
         alloc: Global,

@@ -2,7 +2,7 @@
 ghost use Rattle.std.specs.Prelude.{◌≡◌, ◌+◌, ◌*◌, ◌<◌, ◌≤◌, ◌++◌, take, drop, length, slice_set};
 ghost use Rattle.std.specs.List.{concat};
 ghost use Rattle.av_base.specs.Shapes.{planes_of, columns_of, rows_of};
-ghost use Rattle.av_frame.specs.Frames.{plane_at};
+ghost use Rattle.av_frame.specs.Frames.{plane_at, IsPicture};
 
 use av_frame::{Edit, Frame};
 
@@ -11,6 +11,7 @@ pub(crate) fn put_rows(edit: &mut Edit, plane: u32, first: u32, count: u32, byte
     requires plane { plane < planes_of edit.old.shape }
     requires rows { first + count ≤ rows_of edit.old.shape plane }
     requires wide { length bytes.now ≡ count * columns_of edit.old.shape plane }
+    ensures picture { IsPicture edit.new.shape edit.new.planes }
     ensures others { edit.new ≡ record edit.old { planes = slice_set edit.old.planes plane (plane_at edit.new.planes plane) } }
     ensures rows { concat (take (first + count) (plane_at edit.new.planes plane).rows) ≡ concat (take first (plane_at edit.old.planes plane).rows) ++ bytes.now }
 {

@@ -1,7 +1,7 @@
 //! A plain slow reader, for small files that are in memory, beside the real one.
 ghost use Rattle.std.specs.Prelude.{◌≡◌, ◌≤◌, ℕ, List, length, IfSome, IsNone};
 ghost use Rattle.av_frame.specs.Rasters.{Raster};
-ghost use Rattle.y4m_io.specs.Reading.{IsReadable};
+ghost use Rattle.av_base.specs.Shapes.{IsPictured};
 ghost use Rattle.y4m_io.specs.Pictures.{ArePictures, pictures_text};
 
 use crate::file_tests::{FRAME, HEADER, WRITTEN_HEADER, copy_file, host_with};
@@ -10,9 +10,9 @@ use crate::y4m_limits::FRAME_MARK;
 use av_base::Shape;
 use std::test::Fail;
 
-/// How many frames of the shape the bytes are, or none where they are no whole frames.
+/// How many frames of the shape the bytes are, or none if they are no whole frames.
 fn count_frames(bytes: &[u8], shape: Shape) -> Option<usize>
-    requires { IsReadable shape }
+    requires { IsPictured shape }
     ensures found { IfSome result (λ n. (pictures : List (List Raster)) × (length pictures ≡ n) × ArePictures shape pictures × (bytes.now ≡ pictures_text pictures)) }
     ensures none { IsNone result → (pictures : List (List Raster)) → ArePictures shape pictures → bytes.now ≡ pictures_text pictures → ⊥ }
     ensures fits { IfSome result (λ n. n ≤ length bytes.now) }
@@ -25,13 +25,13 @@ fn count_frames(bytes: &[u8], shape: Shape) -> Option<usize>
     if (picture.len() as u64) < size {
         return None;
     }
-    let behind = count_frames(&picture[size as usize..], shape)?;
-    Some(behind + 1)
+    let others = count_frames(&picture[size as usize..], shape)?;
+    Some(others + 1)
 }
 
-/// The shape that a header line tells.
+/// The shape that a header line states.
 fn shape_of(line: &[u8]) -> Option<Shape>
-    ensures { IfSome result IsReadable }
+    ensures { IfSome result IsPictured }
 {
     match read_header(line) {
         Some(shape) => Some(shape),

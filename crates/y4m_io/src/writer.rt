@@ -1,10 +1,12 @@
 //! The writer of YUV4MPEG2 files.
 ghost use Rattle.std.specs.Prelude.{◌≡◌, ◌<◌, ◌≤◌, [], ℕ, length, IfOk, OnOk, OnErr, IsOk, IsSome};
 ghost use Rattle.std.specs.List.{concat};
+ghost use Rattle.av_base.specs.Bounds.{greatest_side};
 ghost use Rattle.av_base.specs.Shapes.{planes_of, columns_of};
 ghost use Rattle.av_host.specs.Calls.{Changes, appended, Counts, RaisesWrites};
 ghost use Rattle.av_frame.specs.Frames.{plane_at};
 ghost use Rattle.av_host.specs.HostRuns.{WritesPart};
+ghost use Rattle.y4m_io.specs.Sizes.{piece_size};
 ghost use Rattle.y4m_io.specs.HeaderTexts.{header_text, IsWritable};
 ghost use Rattle.y4m_io.specs.FrameTexts.{picture_text, frame_text};
 ghost use Rattle.y4m_io.specs.Writing.{Writes, CountsWrite, write_error_of};
@@ -31,6 +33,7 @@ pub struct Writer {
 
 impl Model for Writer {
     ghost use Rattle.std.specs.Prelude.{◌≡◌, vec_len};
+    ghost use Rattle.y4m_io.specs.Sizes.{piece_size};
     ghost use Rattle.y4m_io.specs.HeaderTexts.{IsWritable};
     ghost use Rattle.y4m_io.specs.Writing.{Writing};
 
@@ -38,7 +41,7 @@ impl Model for Writer {
 
     ghost view = { λ w. record { id = w.id; shape = w.shape; progress = w.progress } };
 
-    ghost invariant = { λ w. (vec_len w.buffer ≡ 65536) × IsWritable w.shape };
+    ghost invariant = { λ w. (vec_len w.buffer ≡ piece_size) × IsWritable w.shape };
 }
 
 /// Writes the rows of a plane, in pieces of whole rows.
@@ -51,8 +54,8 @@ fn write_plane<H: Host>(
 ) -> Result<(), HostError>
     requires id { IsSome ((H.world host.old).outputs.name id) }
     requires plane { plane < planes_of frame.old.shape }
-    requires narrow { columns_of frame.old.shape plane ≤ 8192 }
-    requires long { length buffer.old ≡ 65536 }
+    requires narrow { columns_of frame.old.shape plane ≤ greatest_side }
+    requires long { length buffer.old ≡ piece_size }
     ensures written { OnOk result (Changes (H.world host.old) (H.world host.new) id (appended (concat (plane_at frame.old.planes plane).rows))) }
     ensures refused { OnErr result (WritesPart (H.world host.old) (H.world host.new) id (concat (plane_at frame.old.planes plane).rows)) }
     ensures faults { Counts RaisesWrites result (H.world host.old).faults (H.world host.new).faults }
@@ -80,8 +83,8 @@ fn write_picture<H: Host>(
     buffer: &mut [u8],
 ) -> Result<(), HostError>
     requires id { IsSome ((H.world host.old).outputs.name id) }
-    requires narrow { (p : ℕ) → p < planes_of frame.old.shape → columns_of frame.old.shape p ≤ 8192 }
-    requires long { length buffer.old ≡ 65536 }
+    requires narrow { (p : ℕ) → p < planes_of frame.old.shape → columns_of frame.old.shape p ≤ greatest_side }
+    requires long { length buffer.old ≡ piece_size }
     ensures written { OnOk result (Changes (H.world host.old) (H.world host.new) id (appended (picture_text frame.old.planes))) }
     ensures refused { OnErr result (WritesPart (H.world host.old) (H.world host.new) id (picture_text frame.old.planes)) }
     ensures faults { Counts RaisesWrites result (H.world host.old).faults (H.world host.new).faults }
@@ -101,8 +104,8 @@ fn write_frame<H: Host>(
     buffer: &mut [u8],
 ) -> Result<(), HostError>
     requires id { IsSome ((H.world host.old).outputs.name id) }
-    requires narrow { (p : ℕ) → p < planes_of frame.old.shape → columns_of frame.old.shape p ≤ 8192 }
-    requires long { length buffer.old ≡ 65536 }
+    requires narrow { (p : ℕ) → p < planes_of frame.old.shape → columns_of frame.old.shape p ≤ greatest_side }
+    requires long { length buffer.old ≡ piece_size }
     ensures written { OnOk result (Changes (H.world host.old) (H.world host.new) id (appended (frame_text frame.old.planes))) }
     ensures refused { OnErr result (WritesPart (H.world host.old) (H.world host.new) id (frame_text frame.old.planes)) }
     ensures faults { Counts RaisesWrites result (H.world host.old).faults (H.world host.new).faults }
@@ -113,7 +116,7 @@ fn write_frame<H: Host>(
     Ok(())
 }
 
-/// What the writer returns after a refused call of the host.
+/// What the writer returns after a failed call of the host.
 fn write_error(error: HostError) -> WriteError
     ensures { result ≡ write_error_of error }
 {
@@ -144,7 +147,7 @@ impl Writer {
     /// Writes the header line.
     ///
     /// # Errors
-    /// `Host` exactly where the host's count of writes rose, and `NoMemory`, out of memory. The writer is spent then,
+    /// `Host` exactly if the host's count of writes rose, and `NoMemory`, out of memory. The writer is spent then,
     /// and a beginning of the line was added.
     pub fn start<H: Host>(&mut self, alloc: Global, host: &mut H) -> Result<(), WriteError>
         requires id { IsSome ((H.world host.old).outputs.name self.old.id) }
@@ -157,19 +160,15 @@ impl Writer {
             Ok(line) => line,
             Err(NoMemory) => return Err(WriteError::NoMemory),
         };
-        match write_all(host, self.id, line.as_bytes()) {
-            Ok(()) => {
-                self.progress = Progress::Started;
-                Ok(())
-            }
-            Err(error) => Err(write_error(error)),
-        }
+        write_all(host, self.id, line.as_bytes()).map_err(write_error)?;
+        self.progress = Progress::Started;
+        Ok(())
     }
 
     /// Writes a frame of the writer's shape.
     ///
     /// # Errors
-    /// `Host` exactly where the host's count of writes rose, and `NoMemory` where the host is out of memory. The writer is
+    /// `Host` exactly if the host's count of writes rose, and `NoMemory` if the host is out of memory. The writer is
     /// spent then, and a beginning of the frame's text was added.
     pub fn frame<H: Host>(
         &mut self,
@@ -185,13 +184,9 @@ impl Writer {
         ensures same { frame.new ≡ frame.old }
     {
         self.progress = Progress::Spent;
-        match write_frame(host, self.id, frame, &mut self.buffer) {
-            Ok(()) => {
-                self.progress = Progress::Started;
-                Ok(())
-            }
-            Err(error) => Err(write_error(error)),
-        }
+        write_frame(host, self.id, frame, &mut self.buffer).map_err(write_error)?;
+        self.progress = Progress::Started;
+        Ok(())
     }
 
     /// Writes the end of the file, which is empty. It makes no call of the host.

@@ -7,9 +7,9 @@ use av_base::Shape;
 pub enum Stage {
     /// Nothing was read.
     Fresh,
-    /// The header was read, and told this shape.
+    /// The header was read, and stated this shape.
     Headed(Shape),
-    /// A call was refused, and no other may be made.
+    /// A call failed, and no other may be made.
     Spent,
 }
 
@@ -20,6 +20,6 @@ pub enum Progress {
     Fresh,
     /// The header was written, and no end yet.
     Started,
-    /// A call was refused or the end was written, and no other call may be made.
+    /// A call failed or the end was written, and no other call may be made.
     Spent,
 }

@@ -1,7 +1,8 @@
 use Rattle.std.proofs.Common.{◌+◌, ◌*◌, ◌∙◌, ap, arith}
 use Rattle.std.proofs.lemmas.Str.Parse.{digit_at}
-use Rattle.av_expr.proofs.AtomLemmas.{front_below, value_more}
+use Rattle.av_expr.proofs.AtomLemmas.{front_below}
 use Rattle.av_expr.proofs.atoms.digits_number.Goals as goal
+use Rattle.av_text.proofs.NumberLemmas.{value_more}
 
 pub overflow_mul-value : goal.overflow_mul-value
 overflow_mul-value c = let i = c.loop-byte.invariant in let small = front_below c.args.digits.now c.loop-byte.byte-index c.requires.digits c.requires.few in omega arith

@@ -2,15 +2,15 @@ use Rattle.std.proofs.Common.{◌≡◌, ◌≤◌, ◌-◌, suc, length, rules,
 use Rattle.std.proofs.lemmas.Result.{err_from_is_err_and, IfOk-weaker}
 use Rattle.av_expr.specs.Grammar.{IsUnary, NoUnary, NoProduct, NoSum, IsOpen, NoAtom}
 use Rattle.av_expr.specs.Reading.{FailsAt}
-use Rattle.av_expr.proofs.AnswerLemmas.{fault_handed, fault_weaker, both_ok}
 use Rattle.av_expr.proofs.ReadLemmas.{chained_more, chained_all, chained_fault, unary_atom, no_unary_atom, unary_plus, unary_minus, unary_group, no_unary_plus, no_unary_minus, no_group_inside, no_group_end, too_deep}
 use Rattle.av_expr.proofs.reader.+grammar.Goals as goal
+use Rattle.av_base.proofs.FailureLemmas.{fault_passed, fault_weaker, both_ok}
 
 pub read_product-returns-in_err-end-2-clause-fault : goal.read_product-returns-in_err-end-2-clause-fault
 read_product-returns-in_err-end-2-clause-fault t c =
     let text = c.args.text.now in
     let p = err_from_is_err_and c.from_residual-in_err-end-2.result c.from_residual-in_err-end-2.ensures.1 in
-    fault_handed c.read_unary-in-Some.result c.from_residual-in_err-end-2.result c.in_err-end-2.field-0.0 p.0 c.in_err-end-2.was p.1 p.2
+    fault_passed c.read_unary-in-Some.result c.from_residual-in_err-end-2.result c.in_err-end-2.field-0.0 p.0 c.in_err-end-2.was p.1 p.2
     (FailsAt (NoUnary c.args.allowed c.args.levels) text c.skip_white-operand.result) (FailsAt (NoProduct (IsUnary c.args.allowed c.args.levels) (NoUnary c.args.allowed c.args.levels)) text c.args.place)
     (chained_fault c.skip_white-operand.result c.in-Some.operator c.operands.invariant c.in-Some.ensures c.skip_white-operand.ensures.skips)
     c.read_unary-in-Some.ensures.fault
@@ -28,7 +28,7 @@ read_sum-returns-in_err-end-2-clause-fault t c =
     let P = IsUnary c.args.allowed c.args.levels in
     let F = NoUnary c.args.allowed c.args.levels in
     let p = err_from_is_err_and c.from_residual-in_err-end-2.result c.from_residual-in_err-end-2.ensures.1 in
-    fault_handed c.read_product-in-Some.result c.from_residual-in_err-end-2.result c.in_err-end-2.field-0.0 p.0 c.in_err-end-2.was p.1 p.2
+    fault_passed c.read_product-in-Some.result c.from_residual-in_err-end-2.result c.in_err-end-2.field-0.0 p.0 c.in_err-end-2.was p.1 p.2
     (FailsAt (NoProduct P F) text c.skip_white-operand.result) (FailsAt (NoSum P F) text c.args.place)
     (chained_fault c.skip_white-operand.result c.in-Some.operator c.operands.invariant c.in-Some.ensures c.skip_white-operand.ensures.skips)
     c.read_product-in-Some.ensures.fault
@@ -79,7 +79,7 @@ read_unary-returns-in_err-end-in-Minus-clause-fault t c =
     let less : c.args.levels ≡ suc (c.args.levels - 1) = let some = c.if-levels-eq0.false in omega arith in
     let at = rw c.in-Minus.is at c.in-Some.ensures in
     let p = err_from_is_err_and c.from_residual.result c.from_residual.ensures.1 in
-    fault_handed c.read_unary-in-Minus.result c.from_residual.result c.in_err-end-in-Minus.field-0.0 p.0 c.in_err-end-in-Minus.was p.1 p.2
+    fault_passed c.read_unary-in-Minus.result c.from_residual.result c.in_err-end-in-Minus.field-0.0 p.0 c.in_err-end-in-Minus.was p.1 p.2
     (FailsAt (NoUnary c.args.allowed (c.args.levels - 1)) text c.skip_white-inside.result) (FailsAt (NoUnary c.args.allowed c.args.levels) text c.args.place)
     (no_unary_minus c.args.allowed c.args.levels (c.args.levels - 1) less text c.args.place c.skip_white-inside.result at c.skip_white-inside.ensures.skips) c.read_unary-in-Minus.ensures.fault
 
@@ -106,6 +106,6 @@ read_unary-returns-in_err-end-in-Group-clause-fault t c =
     let less : c.args.levels ≡ suc (c.args.levels - 1) = let some = c.if-levels-eq0.false in omega arith in
     let at = rw c.in-Group.is at c.in-Some.ensures in
     let p = err_from_is_err_and c.from_residual-in_err-end-in-Group.result c.from_residual-in_err-end-in-Group.ensures.1 in
-    fault_handed c.read_sum.result c.from_residual-in_err-end-in-Group.result c.in_err-end-in-Group.field-0.0 p.0 c.in_err-end-in-Group.was p.1 p.2
+    fault_passed c.read_sum.result c.from_residual-in_err-end-in-Group.result c.in_err-end-in-Group.field-0.0 p.0 c.in_err-end-in-Group.was p.1 p.2
     (FailsAt (NoSum P F) text c.skip_white-inside.result) (FailsAt (NoUnary c.args.allowed c.args.levels) text c.args.place)
     (no_group_inside c.args.allowed c.args.levels (c.args.levels - 1) less text c.args.place c.skip_white-inside.result at c.skip_white-inside.ensures.skips) c.read_sum.ensures.fault

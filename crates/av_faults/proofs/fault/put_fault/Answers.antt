@@ -35,9 +35,6 @@ returns-in-MissingOption-clause-text c = rw c.in-MissingOption.is (simp (c.put_o
 pub returns-in-NoCommonFormat-clause-text : goal.returns-in-NoCommonFormat-clause-text
 returns-in-NoCommonFormat-clause-text c = rw c.in-NoCommonFormat.is (simp (c.put_one-in-NoCommonFormat.ensures.text, append_assoc))
 
-pub returns-in-TimeBaseRange-clause-text : goal.returns-in-TimeBaseRange-clause-text
-returns-in-TimeBaseRange-clause-text c = rw c.in-TimeBaseRange.is (simp (c.put_one-in-TimeBaseRange.ensures.text, append_assoc))
-
 pub returns-in-UnknownOption-clause-text : goal.returns-in-UnknownOption-clause-text
 returns-in-UnknownOption-clause-text c = rw c.in-UnknownOption.is (simp (c.put_option.ensures.text, append_assoc))
 
@@ -46,6 +43,3 @@ returns-in-TooManyValues-clause-text c = rw c.in-TooManyValues.is (simp (c.put_o
 
 pub returns-in-BadValue-clause-text : goal.returns-in-BadValue-clause-text
 returns-in-BadValue-clause-text c = rw c.in-BadValue.is (simp (c.put_option-in-BadValue.ensures.text, append_assoc))
-
-pub returns-in-NoValue-clause-text : goal.returns-in-NoValue-clause-text
-returns-in-NoValue-clause-text c = rw c.in-NoValue.is (simp (c.put_option-in-NoValue.ensures.text, append_assoc))

@@ -1,6 +1,6 @@
 use Rattle.std.proofs.Common.{◌≡◌, arith}
 use Rattle.av_frame.specs.Frames.{FrameValue}
-use Rattle.av_frame.proofs.WholeLemmas.{ready_more}
+use Rattle.av_filter.proofs.WholeLemmas.{ready_more}
 use Rattle.av_frame_tests.proofs.filter_tests.whole_streams_go_through_any_filter.Goals as goal
 
 pub given_for-requires-clause-ready : goal.given_for-requires-clause-ready

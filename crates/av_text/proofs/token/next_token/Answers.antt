@@ -33,7 +33,7 @@ token c =
       value_is = c.new-in-Ok-None.ensures ∙ (c.truncate.ensures.bytes ∙ kept_value r);
     }
 
--- where it ends
+-- the place at which the token ends
 token_place : (c : goal.After-new-in-Ok-None) → (front : List ℕ) × (c.args.text.now ≡ front ++ c.loop-piece.rest.now) × (c.args.start ≤ length front)
 token_place c = rest_from c.args.start c.range_from.ensures.value (let h = c.range_from.ensures.len in omega arith) c.split_run.ensures.run c.loop-piece.invariant.1
 
@@ -68,7 +68,7 @@ fault c =
     let r = c.loop-piece.invariant.1 in
     record { row = r.row; is_row = is_row (rw c.range_from.ensures.value at c.split_run.ensures.run) r; broken = c.in-Err.ensures.broken }
 
--- where it stands
+-- the place of the fault
 fault_at : (c : goal.After-drop-value-in-Err) → length c.args.text.now - length c.loop-piece.rest.now + length c.loop-piece.rest.now ≡ length c.args.text.now
 fault_at c =
     let at = rest_from c.args.start c.range_from.ensures.value (let h = c.range_from.ensures.len in omega arith) c.split_run.ensures.run c.loop-piece.invariant.1 in

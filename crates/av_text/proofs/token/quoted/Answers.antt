@@ -1,5 +1,5 @@
 use Rattle.std.proofs.Common.{lit<, ℕ, List, [], ◌∷◌, ◌++◌, refl, sym, ◌∙◌, ap, append_assoc}
-use Rattle.av_text.proofs.PieceLemmas.{no_mark, split_mark, behind_mark}
+use Rattle.av_text.proofs.PieceLemmas.{no_mark, split_mark, after_mark}
 use Rattle.av_text.proofs.token.quoted.Goals as goal
 
 pub returns-in-Some-clause-piece : goal.returns-in-Some-clause-piece
@@ -11,4 +11,4 @@ returns-in-None-clause-broken c = (c.args.text.now, refl, no_mark 39 c.args.text
 pub returns-in-Some-clause-utf8 : goal.returns-in-Some-clause-utf8
 returns-in-Some-clause-utf8 c =
     let h = split_mark 39 c.args.text.now c.in-Some.inner.now c.in-Some.behind.now (lit< tt) c.in-Some.ensures.cases in
-    behind_mark 39 c.args.text.now c.in-Some.inner.now c.in-Some.behind.now (lit< tt) c.utf8.text h.0
+    after_mark 39 c.args.text.now c.in-Some.inner.now c.in-Some.behind.now (lit< tt) c.utf8.text h.0

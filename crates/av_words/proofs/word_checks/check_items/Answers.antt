@@ -2,13 +2,14 @@ use Rattle.std.proofs.Common.{arith, rules, below_more}
 use Rattle.std.proofs.lemmas.List.{length-map}
 use Rattle.av_words.specs.WordRoles.{said_of, line_of}
 use Rattle.av_words.specs.WordChecks.{HasNoneAt}
-use Rattle.av_words.proofs.WordCheckLemmas.{no_item, line_more, first_found, word_within, fault_then}
+use Rattle.av_words.proofs.WordCheckLemmas.{no_item, line_more, first_found, word_within}
 use Rattle.av_words.proofs.word_checks.check_items.Goals as goal
+use Rattle.av_base.proofs.FailureLemmas.{fault_then}
 
 pub returns-in_err-check_item-clause-fault : goal.returns-in_err-check_item-clause-fault
 returns-in_err-check_item-clause-fault c =
     let line = line_of c.args.items.now in
-    let fault = fault_then (Unit {0}) c.in_err-check_item.field-0.0 c.in_err-check_item.ensures.fault (λ f is. first_found line c.items.number f c.items.invariant.clean is) in
+    let fault = fault_then (Unit {0}) (Unit {0}) c.in_err-check_item.field-0.0 _ _ (λ f is. first_found line c.items.number f c.items.invariant.clean is) c.in_err-check_item.ensures.fault in
     search rules
 
 pub items-preserved : goal.items-preserved

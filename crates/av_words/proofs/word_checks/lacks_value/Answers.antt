@@ -10,6 +10,6 @@ tested true P there none = (λ t. absurd (false≢true t), λ p. absurd (there r
 tested false P there none = (λ _. none (λ t. false≢true t), λ _. refl)
 
 pub returns-in-Names-Map : goal.returns-in-Names-Map
-returns-in-Names-Map c behind is_last has none =
-    let P : Role → Type 0 = λ r. IsTrue (not c.args.has_file) ↔ LacksValue r behind in
-    subst P (sym (c.in-Names-Map.is ∙ ap Names (rw c.in-Names-Map.is at c.in-Names-Map.field-0-is))) (tested c.args.has_file (Lacks behind File) has none)
+returns-in-Names-Map c after is_last has none =
+    let P : Role → Type 0 = λ r. IsTrue (not c.args.has_file) ↔ LacksValue r after in
+    subst P (sym (c.in-Names-Map.is ∙ ap Names (rw c.in-Names-Map.is at c.in-Names-Map.field-0-is))) (tested c.args.has_file (Lacks after File) has none)

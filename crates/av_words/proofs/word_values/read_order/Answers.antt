@@ -1,13 +1,9 @@
-use Rattle.std.proofs.Common.{◌∙◌, ℕ, List, Bor, [], map, ap}
+use Rattle.std.proofs.Common.{◌∙◌, ℕ, List, Bor, map, ap}
 use Rattle.std.proofs.lemmas.Slice.Zip.{all_zipped_more}
 use Rattle.std.proofs.lemmas.Option.{none-some}
 use Rattle.av_text.specs.Numbers.{IsNumber}
-use Rattle.av_words.proofs.WordValueLemmas.{zip_fails, lent_at, lent_more}
+use Rattle.av_words.proofs.WordValueLemmas.{no_text, zip_fails, lent_at, lent_more}
 use Rattle.av_words.proofs.word_values.read_order.Goals as goal
-
--- what is read past the end of a list of texts
-abbrev no_text : Bor (List ℕ)
-no_text = record { ref_ptr = (0, 0); now = [] }
 
 pub returns-in_default-clause-none : goal.returns-in_default-clause-none
 returns-in_default-clause-none c none numbers order =

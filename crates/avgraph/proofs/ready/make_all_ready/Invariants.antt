@@ -1,7 +1,7 @@
 use Rattle.std.proofs.Common.{◌≡◌, List, take}
 use Rattle.std.specs.List.{AllZip}
 use Rattle.graph_text.specs.declared.graph.FilterCall.{FilterCall}
-use Rattle.av_frame.specs.Limits.{IsPictureShape}
+use Rattle.av_base.specs.Shapes.{IsPictureShape}
 use Rattle.node_core.specs.Kinds.{IsKind}
 use Rattle.avgraph.specs.Chains.{AreReady}
 use Rattle.avgraph.proofs.ready.make_all_ready.Given as goal

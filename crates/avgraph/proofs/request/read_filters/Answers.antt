@@ -1,11 +1,10 @@
 use Rattle.std.proofs.Common.{length, refl, sym, ap, subst, arith}
 use Rattle.std.proofs.lemmas.Result.{IfErr-weaker}
 use Rattle.av_text.specs.declared.fault.TextFault.{TextFault}
-use Rattle.av_text.proofs.ArgLemmas.{fault_found}
+use Rattle.av_base.proofs.FailureLemmas.{fault_found}
 use Rattle.graph_text.proofs.GraphLemmas.{GraphFaultAt}
 use Rattle.av_faults.specs.declared.fault.Fault.TheVariants as Fault
 use Rattle.avgraph.specs.Requests.{RefusesText, TooMany, NoReading, BadCalls, StopsCalls, StopsText}
-use Rattle.avgraph.proofs.ArgCountLemmas.{few_args}
 use Rattle.avgraph.proofs.RequestLemmas.{calls_stop, says_kinds}
 use Rattle.avgraph.proofs.request.read_filters.Goals as goal
 
@@ -21,7 +20,7 @@ returns-then-calls-gt-FILTERS_MAX-clause-stop c =
     (BadCalls (omega arith) c.in-Ok.graph.calls c.in-Ok.ensures.graph (TooMany (let many = c.if-calls-gt-FILTERS_MAX.true in omega (arith, ap length c.as_slice-calls.ensures)) refl))
 
 pub chain_of-requires-clause-args : goal.chain_of-requires-clause-args
-chain_of-requires-clause-args c = rw c.as_slice-calls.ensures (few_args c.args.text.now c.in-Ok.graph.calls c.in-Ok.ensures.graph (omega arith))
+chain_of-requires-clause-args c = rw c.as_slice-calls.ensures c.in-Ok.ensures.few
 
 pub returns-clause-filters : goal.returns-clause-filters
 returns-clause-filters c =

@@ -7,7 +7,7 @@ use Rattle.filt_video.proofs.FormatLemmas.{no_formats, one_more_format, not_form
 use Rattle.filt_video.proofs.format_list.read_formats.Goals as goal
 
 pub reading-init : goal.reading-init
-reading-init c = no_formats c.empty-formats.result c.empty-formats.ensures
+reading-init c = no_formats c.empty-formats.result c.empty-formats.ensures.formats
 
 pub returns-in_default-clause-none : goal.returns-in_default-clause-none
 returns-in_default-clause-none c = λ none set.
@@ -19,7 +19,7 @@ returns-in_default-clause-none c = λ none set.
 pub reading-preserved : goal.reading-preserved
 reading-preserved c =
     rw (map-append (λ part. part.now) c.reading.yielded (c.in-Some.name ∷ []))
-    (one_more_format _ c.in-Some.name.now c.in-Some-named.pixels c.reading.formats c.with-formats.result (sym c.named.ensures ∙ c.in-Some-named.is) c.with-formats.ensures c.reading.invariant)
+    (one_more_format _ c.in-Some.name.now c.in-Some-named.pixels c.reading.formats c.with-formats.result (sym c.named.ensures ∙ c.in-Some-named.is) c.with-formats.ensures.formats c.reading.invariant)
 
 pub returns-clause-found : goal.returns-clause-found
 returns-clause-found c =

@@ -7,7 +7,7 @@ use Rattle.graph_formats.proofs.DemandLemmas.{no_wish, narrowed_none, narrowed_m
 use Rattle.graph_formats.proofs.demands.narrow.Goals as goal
 
 pub wishes-init : goal.wishes-init
-wishes-init c = narrowed_none c.args.links c.in_ok-sets.sets.items c.all.result (c.in_ok-sets.ensures.items_if_clones_equal (λ y is. is)) c.all.ensures
+wishes-init c = narrowed_none c.args.links c.in_ok-sets.sets.items c.all.result (c.in_ok-sets.ensures.items_if_clones_equal (λ y is. is)) c.all.ensures.formats
 
 pub index-requires : goal.index-requires
 index-requires c =
@@ -30,4 +30,4 @@ wishes-preserved c =
     let each = c.wishes.invariant.each in
     rw (take_more c.args.wishes.now c.wishes.wish-index no_wish (omega arith))
     (narrowed_more c.args.links (take c.wishes.wish-index c.args.wishes.now) wish c.wishes.sets.items c.index.result.now c.both-set.result c.wishes.invariant
-    (slice_get_read c.wishes.sets.items (length c.wishes.sets.items) wish.link c.index.result.now refl (omega arith) c.index.ensures) c.both-set.ensures)
+    (slice_get_read c.wishes.sets.items (length c.wishes.sets.items) wish.link c.index.result.now refl (omega arith) c.index.ensures) c.both-set.ensures.formats)

@@ -7,7 +7,7 @@ use Rattle.graph_plan.proofs.CalledLemmas.{found_pad, pad_found, found_within, m
 use Rattle.graph_plan.proofs.bind.take_pads.Goals as goal
 
 pub find_free-requires : goal.find_free-requires
-find_free-requires c = found_within c.args.pads.now c.in_ok-table.table c.in_ok-table.ensures.called (length c.as_slice.result.now) (ap length c.as_slice.ensures.value ∙ c.files.invariant.marked.each)
+find_free-requires c = found_within c.args.pads.now c.in_ok-table.table c.in_ok-table.ensures (length c.as_slice.result.now) (ap length c.as_slice.ensures.value ∙ c.files.invariant.marked.each)
 
 pub returns-in_default-clause-fault : goal.returns-in_default-clause-fault
 returns-in_default-clause-fault c =
@@ -15,12 +15,12 @@ returns-in_default-clause-fault c =
     let name = name_of c.index-files-output.result.label c.files.number in
     let none = rw c.as_slice.ensures.value at (c.in_default.ensures.none refl) in
     file_stuck c.files.output c.files.number c.index-files-output.result loop.found loop.each c.files-test.true c.index-files-output.is loop.numbered
-    (λ o is. (loop.marked.marked o).0 (none o (pad_found c.args.pads.now c.in_ok-table.table c.in_ok-table.ensures.called name o is)))
+    (λ o is. (loop.marked.marked o).0 (none o (pad_found c.args.pads.now c.in_ok-table.table c.in_ok-table.ensures name o is)))
 
 pub push-requires : goal.push-requires
 push-requires c =
     let name = name_of c.index-files-output.result.label c.files.number in
-    let within = found_within c.args.pads.now c.in_ok-table.table c.in_ok-table.ensures.called (length c.files.taken.marks.items) c.files.invariant.marked.each name in
+    let within = found_within c.args.pads.now c.in_ok-table.table c.in_ok-table.ensures (length c.files.taken.marks.items) c.files.invariant.marked.each name in
     rw c.in-Some.ensures.free.0 at within
 
 pub files-preserved : goal.files-preserved
@@ -32,9 +32,9 @@ files-preserved c =
     let place = c.in-Some.place in
     let free = rw c.as_slice.ensures.value at c.in-Some.ensures.free in
     let next = number_next (λ (f : OutputFile). f.label) files c.files.output c.files.number c.next_number-number.result c.index-files-output.result c.files-test.true c.index-files-output.is loop.numbered c.next_number-number.ensures loop.few in
-    let is = found_pad pads c.in_ok-table.table c.in_ok-table.ensures.called name place free.0 in
+    let is = found_pad pads c.in_ok-table.table c.in_ok-table.ensures name place free.0 in
     let more = found_more c.files.output c.files.number place c.index-files-output.result loop.found loop.each c.files-test.true c.index-files-output.is loop.numbered is (λ contains. free.1 ((loop.marked.marked place).1 contains)) in
-    let within = rw free.0 at (found_within pads c.in_ok-table.table c.in_ok-table.ensures.called (length pads) refl name) in
+    let within = rw free.0 at (found_within pads c.in_ok-table.table c.in_ok-table.ensures (length pads) refl name) in
     record {
       few = next.0;
       numbered = next.1;

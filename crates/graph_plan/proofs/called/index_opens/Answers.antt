@@ -8,5 +8,5 @@ pads-preserved c =
     let more = called_more c.args.pads.now c.pads.place c.index-pads-place.result c.pads.table c.add_pad.new.table c.pads-test.true c.index-pads-place.is loop.called loop.numbered c.in_ok-add_pad.ensures.called c.in_ok-add_pad.ensures.numbered in
     record { called = more.0; numbered = more.1 }
 
-pub returns-clause-called : goal.returns-clause-called
-returns-clause-called c = rw (take_all c.pads.place c.args.pads.now c.pads-test.false) at c.pads.invariant.called
+pub returns : goal.returns
+returns c = rw (take_all c.pads.place c.args.pads.now c.pads-test.false) at c.pads.invariant.called

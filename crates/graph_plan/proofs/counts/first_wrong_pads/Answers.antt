@@ -5,7 +5,7 @@ use Rattle.graph_plan.proofs.CountLemmas.{wrong_low}
 use Rattle.graph_plan.proofs.counts.first_wrong_pads.Goals as goal
 
 pub returns-then-has_wrong_pads-clause-wrong : goal.returns-then-has_wrong_pads-clause-wrong
-returns-then-has_wrong_pads-clause-wrong c = record { holds = c.if-has_wrong_pads.ensures.0 refl; least = c.filters.invariant }
+returns-then-has_wrong_pads-clause-wrong c = record { holds = c.if-has_wrong_pads.ensures.0 refl; none_before = c.filters.invariant }
 
 pub filters-preserved : goal.filters-preserved
 filters-preserved c =

@@ -12,8 +12,8 @@ pub labels-init : goal.labels-init
 labels-init c = seen_none (graph_of c.args.parts.now) c.args.side (IsNoted c.args.side c.args.others.now) _ c.new-table.ensures.pads c.new-table.ensures.twice
 
 pub labels-preserved : goal.labels-preserved
-labels-preserved c = rw (take_more c.as_slice-place-items.result.now c.labels.place-index (record { filter = 0; pad = 0 }) c.labels-test.true) (c.in_ok-note_place.ensures.noted _ c.labels.invariant)
+labels-preserved c = rw (take_more c.as_slice-place-items.result.now c.labels.place-index (record { filter = 0; pad = 0 }) c.labels-test.true) (c.in_ok-note_place.ensures _ c.labels.invariant)
 
-pub returns-clause-noted : goal.returns-clause-noted
-returns-clause-noted c = seen_all (graph_of c.args.parts.now) c.args.side (IsNoted c.args.side c.args.others.now) c.as_slice-place-items.result.now c.labels.table
-    (c.as_slice-place-items.ensures.value ∙ c.in_ok-places.ensures.places) (rw (take_all c.labels.place-index c.as_slice-place-items.result.now c.labels-test.false) at c.labels.invariant)
+pub returns : goal.returns
+returns c = seen_all (graph_of c.args.parts.now) c.args.side (IsNoted c.args.side c.args.others.now) c.as_slice-place-items.result.now c.labels.table
+    (c.as_slice-place-items.ensures.value ∙ c.in_ok-places.ensures) (rw (take_all c.labels.place-index c.as_slice-place-items.result.now c.labels-test.false) at c.labels.invariant)

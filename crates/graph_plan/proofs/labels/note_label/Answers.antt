@@ -4,13 +4,13 @@ use Rattle.graph_plan.specs.Joining.{pad_of, IsNoted}
 use Rattle.graph_plan.proofs.TableLemmas.{some_found, found_some, seen_again, seen_new}
 use Rattle.graph_plan.proofs.labels.note_label.Goals as goal
 
-pub returns-then-contains_key-clause-noted : goal.returns-then-contains_key-clause-noted
-returns-then-contains_key-clause-noted c graph side others seen labelled noted is =
+pub returns-then-contains_key : goal.returns-then-contains_key
+returns-then-contains_key c graph side others seen labelled noted is =
     let has = some_found (pad_of c.args.table.now c.args.name.now) (sym c.contains_key.ensures ∙ c.if-contains_key.true) in
     seen_again graph side (IsNoted side others) seen c.args.place c.args.name.now c.args.table.now _ is labelled noted has refl c.or-table.ensures
 
-pub returns-clause-noted : goal.returns-clause-noted
-returns-clause-noted c graph side others seen labelled noted is =
+pub returns : goal.returns
+returns c graph side others seen labelled noted is =
     let table = c.args.table.now in
     let name = c.args.name.now in
     seen_new graph side (IsNoted side others) seen c.args.place name table _ is labelled noted

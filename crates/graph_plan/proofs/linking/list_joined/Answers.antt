@@ -23,5 +23,5 @@ inlets-preserved c =
       | in_default w ↦ subst P (sym (ap (λ v. v.items) w.edges-is)) (joined_same c.inlets.edges.items inlets index no_inlet c.inlets-test.true w.in_default.ensures c.inlets.invariant)
     ]
 
-pub returns-clause-joined : goal.returns-clause-joined
-returns-clause-joined c = rw (take_all c.inlets.inlet-index c.args.inlets.now c.inlets-test.false) at c.inlets.invariant
+pub returns : goal.returns
+returns c = rw (take_all c.inlets.inlet-index c.args.inlets.now c.inlets-test.false) at c.inlets.invariant

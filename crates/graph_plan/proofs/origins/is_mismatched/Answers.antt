@@ -10,8 +10,8 @@ returns-in-Pad c =
     let taker = c.args.inlet.now.taker in
     let P : Origin → Type 0 = λ o. IsOriginOf g taker o in
     let both = pad_differs g c.requires.fit.labels taker c.in-Pad.giver (subst P c.in-Pad.is c.requires.inlet) in
-    let answer = rw (c.kind_of.ensures, c.kind_of-wants.ensures) at c.differ.ensures in
-    (λ t. both.0 (answer.0 t), λ is. answer.1 (both.1 is))
+    let differs = rw (c.kind_of.ensures, c.kind_of-takes.ensures) at c.differ.ensures in
+    (λ t. both.0 (differs.0 t), λ is. differs.1 (both.1 is))
 
 pub returns-then-differ : goal.returns-then-differ
 returns-then-differ c =
@@ -19,8 +19,8 @@ returns-then-differ c =
     let taker = c.args.inlet.now.taker in
     let P : Origin → Type 0 = λ o. IsOriginOf g taker o in
     let both = file_differs g c.requires.fit.labels taker c.in-File.file c.in-File.said (subst P c.in-File.is c.requires.inlet) in
-    let answer = rw (c.kind_of-wants.ensures, c.kind_of_file-gives.ensures) at c.differ-in-File.ensures in
-    (λ t. both.0 (inl (answer.0 t)), λ is. c.if-differ.true)
+    let differs = rw (c.kind_of-takes.ensures, c.kind_of_file-gives.ensures) at c.differ-in-File.ensures in
+    (λ t. both.0 (inl (differs.0 t)), λ is. c.if-differ.true)
 
 pub returns-else-differ : goal.returns-else-differ
 returns-else-differ c =
@@ -28,10 +28,10 @@ returns-else-differ c =
     let taker = c.args.inlet.now.taker in
     let P : Origin → Type 0 = λ o. IsOriginOf g taker o in
     let both = file_differs g c.requires.fit.labels taker c.in-File.file c.in-File.said (subst P c.in-File.is c.requires.inlet) in
-    let first = rw (c.kind_of-wants.ensures, c.kind_of_file-gives.ensures) at c.differ-in-File.ensures in
-    let answer = rw c.kind_of_file-gives.ensures at c.differ-else-differ.ensures in
+    let first = rw (c.kind_of-takes.ensures, c.kind_of_file-gives.ensures) at c.differ-in-File.ensures in
+    let differs = rw c.kind_of_file-gives.ensures at c.differ-else-differ.ensures in
     let no = c.if-differ.false in
-    (λ t. both.0 (inr (answer.0 t)), λ is. elim (both.1 is) [ inl one ↦ absurd (let found = first.1 one in cc) | inr other ↦ answer.1 other ])
+    (λ t. both.0 (inr (differs.0 t)), λ is. elim (both.1 is) [ inl one ↦ absurd (let found = first.1 one in cc) | inr other ↦ differs.1 other ])
 
 pub returns-in-Open : goal.returns-in-Open
 returns-in-Open c =

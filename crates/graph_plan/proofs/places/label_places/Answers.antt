@@ -9,6 +9,6 @@ calls-preserved c =
     let more = places_more (λ (call : FilterCall). length (labels c.args.side call)) c.args.calls.now c.calls.filter c.index-calls-filter.result (omega (arith, c.calls-test.true, c.calls.auto.filter-end)) in
     let many = ap length c.labels.ensures in
     let is = c.index-calls-filter.is in
-    let next = c.in_ok-places.ensures.places in
+    let next = c.in_ok-places.ensures in
     let before = c.calls.invariant in
     cc

@@ -9,6 +9,6 @@ filters-preserved c =
     let more = places_more (λ (p : Pads). length (kinds c.args.side p)) c.args.pads.now c.filters.filter c.index-pads-filter.result (omega (arith, c.filters-test.true, c.filters.auto.filter-end)) in
     let many = ap length c.kinds.ensures in
     let is = c.index-pads-filter.is in
-    let next = c.in_ok-places.ensures.places in
+    let next = c.in_ok-places.ensures in
     let before = c.filters.invariant in
     cc

@@ -4,7 +4,7 @@ use Rattle.std.proofs.lemmas.Option.{slice_get_within}
 use Rattle.graph_plan.proofs.turns.first_file.Goals as goal
 
 pub returns-then-is_left-clause-left : goal.returns-then-is_left-clause-left
-returns-then-is_left-clause-left c = record { holds = c.if-is_left.ensures.0 refl; least = c.files.invariant }
+returns-then-is_left-clause-left c = record { holds = c.if-is_left.ensures.0 refl; none_before = c.files.invariant }
 
 pub files-preserved : goal.files-preserved
 files-preserved c =

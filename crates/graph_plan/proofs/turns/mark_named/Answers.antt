@@ -1,6 +1,5 @@
-use Rattle.std.proofs.Common.{◌∙◌, length, ap, sym}
-use Rattle.std.proofs.lemmas.List.{take_all}
-use Rattle.graph_plan.proofs.ListLemmas.{lent}
+use Rattle.std.proofs.Common.{drop, ◌∙◌, length, ap, sym}
+use Rattle.std.proofs.lemmas.List.{take_all, take_at}
 use Rattle.graph_plan.proofs.TurnLemmas.{named_more, named_within}
 use Rattle.graph_plan.proofs.ScanLemmas.{no_inlet}
 use Rattle.graph_plan.proofs.turns.mark_named.Goals as goal
@@ -15,7 +14,7 @@ inlets-preserved c =
     let inlets = c.args.inlets.now in
     let index = c.inlets.inlet-index in
     let new = c.mark_file.new.taken in
-    let all = lent new c.inlets.taken.items c.inlets.taken.len (c.mark_file.auto.taken ∙ c.as_mut_slice.ensures.len) in
+    let all = take_at new (drop (length new) c.inlets.taken.items) c.inlets.taken.len (c.mark_file.auto.taken ∙ c.as_mut_slice.ensures.len) in
     let each = ap length c.as_mut_slice.ensures.value ∙ c.inlets.invariant.each in
     let within = rw (sym c.inlets.invariant.each) at (named_within inlets index no_inlet c.named_by.result c.args.count c.inlets-test.true c.requires c.named_by.ensures) in
     rw all (record {

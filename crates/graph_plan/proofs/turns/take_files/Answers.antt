@@ -1,7 +1,6 @@
-use Rattle.std.proofs.Common.{◌∙◌, length, take, get_or, ap}
-use Rattle.std.proofs.lemmas.List.{take_more}
+use Rattle.std.proofs.Common.{drop, ◌∙◌, length, take, get_or, ap}
+use Rattle.std.proofs.lemmas.List.{take_more, take_at}
 use Rattle.graph_plan.specs.Joining.{graph_of}
-use Rattle.graph_plan.proofs.ListLemmas.{lent}
 use Rattle.graph_plan.proofs.TurnLemmas.{taken_none, input_within, so_far_none, so_far_more, kind_there, fails_at, links_all}
 use Rattle.graph_plan.proofs.ScanLemmas.{no_inlet}
 use Rattle.graph_plan.proofs.turns.take_files.Goals as goal
@@ -34,7 +33,7 @@ inlets-preserved c =
     let index = c.inlets.inlet-index in
     let inlet = get_or inlets index no_inlet in
     let new = c.mark_file.new.taken in
-    let all = lent new c.inlets.taken.items c.inlets.taken.len (c.mark_file.auto.taken ∙ c.as_mut_slice.ensures.len) in
+    let all = take_at new (drop (length new) c.inlets.taken.items) c.inlets.taken.len (c.mark_file.auto.taken ∙ c.as_mut_slice.ensures.len) in
     let origin = c.in-Some.ensures c.inlets.links.items (rw c.as_slice.ensures.value c.inlets.invariant.taken) in
     rw (all, c.in_ok-push.ensures.items, take_more inlets index no_inlet c.inlets-test.true)
     (so_far_more g (take index inlets) inlet c.inlets.links.items c.in-Some.from c.input_of.result c.inlets.taken.items new

@@ -2,9 +2,9 @@ use Rattle.std.proofs.Common.{rules, true, ◌≡◌, ◌==◌, ◌+◌, ℕ, Li
 use Rattle.std.specs.Prelude.{slice_index}
 use Rattle.std.proofs.lemmas.List.{length-drop}
 use Rattle.av_text.specs.Arguments.{IsArgsFault}
-use Rattle.av_text.proofs.ArgLemmas.{fault_found}
 use Rattle.av_text.proofs.Places.{begins_at}
 use Rattle.graph_text.proofs.arguments.read_arguments.Goals as goal
+use Rattle.av_base.proofs.FailureLemmas.{fault_found}
 
 pub split_args-requires : goal.split_args-requires
 split_args-requires c =

@@ -1,15 +1,16 @@
 use Rattle.std.proofs.Common.{◌≡◌, [], Some, drop, inl, inr, arith}
 use Rattle.std.proofs.lemmas.Result.{err_from_is_err_and}
 use Rattle.std.proofs.lemmas.List.{length-drop}
-use Rattle.av_text.specs.Faults.{IfFault}
 use Rattle.av_text.specs.declared.fault.TextFault.{TextFault}
 use Rattle.av_text.specs.declared.fault.TextKind.TheVariants.{Stray}
-use Rattle.av_text.proofs.ArgLemmas.{fault_handed}
 use Rattle.graph_text.specs.Grammar.{NoFilter}
 use Rattle.graph_text.specs.Graphs.{NoBody, IsStray, IsGraph}
 use Rattle.graph_text.specs.Reading.{FailsAt, IsNext}
 use Rattle.graph_text.proofs.GraphLemmas.{GraphFaultAt, called_more, called_all, called_fault, called_stray, next_boundary, refused_reads, refused_faulty, one_graph, graph_or_fault}
+use Rattle.graph_text.proofs.ArgCountLemmas.{few_args}
 use Rattle.graph_text.proofs.graph.parse.Goals as goal
+use Rattle.av_base.specs.Failures.{IfFault}
+use Rattle.av_base.proofs.FailureLemmas.{fault_passed}
 
 pub calls-preserved : goal.calls-preserved
 calls-preserved c =
@@ -23,7 +24,7 @@ no_body : (c : goal.After-drop-calls) → IfFault c.from_residual.result (GraphF
 no_body c =
     let text = c.args.text.now in
     let p = err_from_is_err_and c.from_residual.result c.from_residual.ensures.1 in
-    fault_handed c.find_body.result c.from_residual.result c.in_err-place.field-0.0 p.0 (c.in_err-place.was) p.1 p.2 (FailsAt NoBody text 0) (GraphFaultAt text) (λ f h. (h.0, inl h.1, h.2)) c.find_body.ensures.fault
+    fault_passed c.find_body.result c.from_residual.result c.in_err-place.field-0.0 p.0 (c.in_err-place.was) p.1 p.2 (FailsAt NoBody text 0) (GraphFaultAt text) (λ f h. (h.0, inl h.1, h.2)) c.find_body.ensures.fault
 
 pub returns-in_err-place-clause-reads : goal.returns-in_err-place-clause-reads
 returns-in_err-place-clause-reads c =
@@ -41,7 +42,7 @@ no_call : (c : goal.After-drop-calls-in_err-call) → IfFault c.from_residual-in
 no_call c =
     let text = c.args.text.now in
     let p = err_from_is_err_and c.from_residual-in_err-call.result c.from_residual-in_err-call.ensures.1 in
-    fault_handed c.read_filter.result c.from_residual-in_err-call.result c.in_err-call.field-0.0 p.0 (c.in_err-call.was) p.1 p.2
+    fault_passed c.read_filter.result c.from_residual-in_err-call.result c.in_err-call.field-0.0 p.0 (c.in_err-call.was) p.1 p.2
     (FailsAt NoFilter text c.calls.place) (GraphFaultAt text)
     (λ f h. (h.0, inr (drop c.in_ok-place.place text, c.calls.calls.items, c.in_ok-place.ensures.body, called_fault f.kind h.0 c.calls.invariant h.1), h.2)) c.read_filter.ensures.fault
 
@@ -58,14 +59,14 @@ returns-in_err-call-clause-faulty c =
     let p = err_from_is_err_and c.from_residual-in_err-call.result c.from_residual-in_err-call.ensures.1 in
     refused_faulty c.args.text.now c.from_residual-in_err-call.result p.0 p.1 (no_call c)
 
--- ---- something else behind a filter
+-- ---- something else after a filter
 
 strays : (c : goal.After-drop-calls-in_err-next) → IfFault c.from_residual-in_err-next.result (GraphFaultAt c.args.text.now)
 strays c =
     let text = c.args.text.now in
     let end = c.in_ok-call.end in
     let p = err_from_is_err_and c.from_residual-in_err-next.result c.from_residual-in_err-next.ensures.1 in
-    fault_handed c.chain_behind.result c.from_residual-in_err-next.result c.in_err-next.field-0.0 p.0 (c.in_err-next.was) p.1 p.2
+    fault_passed c.chain_after.result c.from_residual-in_err-next.result c.in_err-next.field-0.0 p.0 (c.in_err-next.was) p.1 p.2
     (λ (f : TextFault). IsStray (drop end text) × (f.kind ≡ Stray) × (f.at ≡ end)) (GraphFaultAt text)
     (λ f h. (
       drop end text,
@@ -77,7 +78,7 @@ strays c =
       ),
       (let at = h.2 in let within = c.in_ok-call.ensures.later.1.0 in omega (arith, length-drop end text)),
     ))
-    c.chain_behind.ensures.stray
+    c.chain_after.ensures.stray
 
 pub returns-in_err-next-clause-fault : goal.returns-in_err-next-clause-fault
 returns-in_err-next-clause-fault c = strays c
@@ -104,3 +105,6 @@ returns-clause-reads c = λ calls are. one_graph c.args.text.now c.new-calls-2.r
 
 pub returns-clause-faulty : goal.returns-clause-faulty
 returns-clause-faulty c = λ kind bad g. graph_or_fault c.args.text.now bad c.new-calls-2.result kind (graph c) g
+
+pub returns-clause-few : goal.returns-clause-few
+returns-clause-few c = few_args c.args.text.now c.new-calls-2.result (graph c) c.requires

@@ -18,7 +18,7 @@ returns-in_default-clause-fault c =
     let bad = labelled_bad c.labels.invariant (begins_test 91 (drop place c.args.text.now) (lit< tt) test) (rw at at (c.in_default.ensures.none refl)) in
     rw c.fault.ensures (drop place c.args.text.now, bad, (let within = c.labels.invariant.later.1.0 in omega (arith, length-drop place c.args.text.now)))
 
--- where the label ends
+-- the place after the label
 front : (c : goal.In_ok-push) → (front : List ℕ) × (drop c.labels.place c.args.text.now ≡ front ++ c.in-Some.rest.now)
 front c = let f = label_front c.in-Some.ensures.label in (f.0, sym c.range_from-in-labels.ensures.value ∙ f.1)
 

@@ -6,13 +6,13 @@ pub returns-in_err-numbers-clause-none : goal.returns-in_err-numbers-clause-none
 returns-in_err-numbers-clause-none c = λ none shape is.
     c.in_err-numbers.ensures.none refl is.width is.height is.num is.den (header_numbers is)
 
-pub returns-then-width-gt-SIZE_MAX-clause-none : goal.returns-then-width-gt-SIZE_MAX-clause-none
-returns-then-width-gt-SIZE_MAX-clause-none c = λ none shape is.
+pub returns-then-width-gt-SIDE_MAX-clause-none : goal.returns-then-width-gt-SIDE_MAX-clause-none
+returns-then-width-gt-SIDE_MAX-clause-none c = λ none shape is.
     let numbers = (header_here c.in_ok-numbers.ensures.found is).0 in
     omega arith
 
-pub returns-then-picture_bytes-gt-BYTES_MAX-clause-none : goal.returns-then-picture_bytes-gt-BYTES_MAX-clause-none
-returns-then-picture_bytes-gt-BYTES_MAX-clause-none c = λ none shape is.
+pub returns-then-picture_bytes-gt-PICTURE_MAX-clause-none : goal.returns-then-picture_bytes-gt-PICTURE_MAX-clause-none
+returns-then-picture_bytes-gt-PICTURE_MAX-clause-none c = λ none shape is.
     let numbers = (header_here c.in_ok-numbers.ensures.found is).0 in
     omega arith
 

@@ -37,6 +37,6 @@ loop-row-preserved g c =
     c.fill.auto.buf ∙ length-take-le (c.min-count.result * c.plane_size-columns.result.0) c.loop-row.buffer
     (let all = c.requires.long in let same = c.loop-row.auto.buffer in let fits = piece_fits c.min-count.result c.plane_size-columns.result.0 (omega arith) in omega arith) in
     record {
-      rows = ReadsRows-more c.loop-row.invariant.rows c.min-count.result c.in_ok-fill.field-0 c.fill.new.buf (omega arith) (omega arith) (let all = c.if-branch-size.false in omega arith) now.read c.put_rows.ensures.others c.put_rows.ensures.rows;
+      rows = ReadsRows-more c.loop-row.invariant.rows c.min-count.result c.in_ok-fill.field-0 c.fill.new.buf (omega arith) (omega arith) (let all = c.if-branch-size.false in omega arith) now.read c.put_rows.ensures.others c.put_rows.ensures.rows c.put_rows.ensures.picture;
       faults = now.faults ∙ c.loop-row.invariant.faults;
     }

@@ -12,14 +12,14 @@ returns-then-picture-size-clause-none t c = λ none.
     short_picture c.args.shape c.args.bytes.now c.in_ok-picture.picture.now c.in_ok-picture.ensures.found
     (let e = c.picture_bytes-size.ensures in let h = c.if-picture-size.true in omega arith)
 
-pub returns-in_err-behind-clause-none : goal.returns-in_err-behind-clause-none
-returns-in_err-behind-clause-none t c = λ none.
+pub returns-in_err-others-clause-none : goal.returns-in_err-others-clause-none
+returns-in_err-others-clause-none t c = λ none.
     no_others c.args.shape c.args.bytes.now c.in_ok-picture.picture.now c.picture_bytes-size.result c.in_ok-picture.ensures.found c.picture_bytes-size.ensures
-    (let h = c.if-picture-size.false in omega arith) (λ others are e. c.in_err-behind.ensures.none refl others are (take_rest c.in_ok-picture.picture.now c.picture_bytes-size.result ∙ e))
+    (let h = c.if-picture-size.false in omega arith) (λ others are e. c.in_err-others.ensures.none refl others are (take_rest c.in_ok-picture.picture.now c.picture_bytes-size.result ∙ e))
 
 pub returns-clause-found : goal.returns-clause-found
 returns-clause-found t c =
-    let others = c.in_ok-behind.ensures.found in
+    let others = c.in_ok-others.ensures.found in
     let more = more_pictures c.args.shape c.args.bytes.now c.in_ok-picture.picture.now c.picture_bytes-size.result c.in_ok-picture.ensures.found c.picture_bytes-size.ensures
     (let h = c.if-picture-size.false in omega arith) others.0 others.2 (sym (take_rest c.in_ok-picture.picture.now c.picture_bytes-size.result) ∙ others.3) in
     (more.0, let n = more.1 in let m = others.1 in omega arith, more.2, more.3)

@@ -9,4 +9,4 @@ returns-clause-rest c ins r o h =
     let f = c.args.self.now in
     rw c.in_ok-push_back.ensures.items
     (one_takes _ f.waiting.items _ _ (first_stream (f.left - 1)) (first_stream f.left) c.args.input c.args.frame ins o c.requires.port c.requires.open
-    (λ s. first_takes f.waiting.items c.args.frame f.left f.finished s c.requires.open))
+    (λ s. first_takes f.waiting.items c.args.frame f.left f.has_ended s c.requires.open))

@@ -1,6 +1,7 @@
 use Rattle.std.proofs.Common.{◌≡◌, ℕ, ◌++◌, List, Some, length, refl, ap, sym, ◌∙◌, arith, get_or, take}
 use Rattle.std.proofs.Math.Seq.{take-length}
 use Rattle.std.proofs.lemmas.List.{get_or_default}
+use Rattle.std.proofs.lemmas.Result.{err_from_is_err_and}
 use Rattle.av_host.specs.Calls.{appended}
 use Rattle.av_host.specs.Named.{live_name}
 use Rattle.av_host.specs.Memory.{name_of, bytes_of}
@@ -15,13 +16,13 @@ index_mut-made-requires c =
     let within = live_name_within name_of xs c.args.id live.0 live.1 in
     omega (arith, within, c.args.self.now.made.ok.0)
 
-pub returns-in-Ok-clause-written : goal.returns-in-Ok-clause-written
-returns-in-Ok-clause-written c =
+pub returns-clause-written : goal.returns-clause-written
+returns-clause-written c =
     let xs = c.args.self.now.made.items in
     let i = c.args.id in
     let piece = c.args.piece.now in
     let x = c.append_to.new.made in
-    let now = c.in-Ok.ensures in
+    let now = c.in_ok-append_to.ensures in
     let live : (n : List ℕ) × (live_name name_of xs i ≡ Some n) = some_of _ c.requires in
     let was : c.index_mut-made.result.now ≡ get_or xs i x = c.index_mut-made.ensures.value ∙ get_or_default xs i _ x (live_name_within name_of xs i live.0 live.1) in
     record {
@@ -32,15 +33,16 @@ returns-in-Ok-clause-written c =
           (now.ok ∙ ap (λ o. bytes_of o ++ piece) was ∙ ap (λ p. bytes_of (get_or xs i x) ++ p) (sym (take-length piece)));
     }
 
-pub returns-in-Err-clause-refused : goal.returns-in-Err-clause-refused
-returns-in-Err-clause-refused c =
+pub returns-in_err-append_to-clause-refused : goal.returns-in_err-append_to-clause-refused
+returns-in_err-append_to-clause-refused c =
     let xs = c.args.self.now.made.items in
     let i = c.args.id in
     let x = c.append_to.new.made in
-    let now = c.in-Err.ensures in
+    let now = c.in_err-append_to.ensures in
     let live : (n : List ℕ) × (live_name name_of xs i ≡ Some n) = some_of _ c.requires in
     let was : c.index_mut-made.result.now ≡ get_or xs i x = c.index_mut-made.ensures.value ∙ get_or_default xs i _ x (live_name_within name_of xs i live.0 live.1) in
-    record {
+    let p = err_from_is_err_and c.from_residual.result c.from_residual.ensures.1 in
+    rw p.1 record {
       held = refl;
       inputs = refl;
       said = refl;

@@ -10,5 +10,5 @@ returns-clause-created g c =
       held = refl;
       inputs = refl;
       said = refl;
-      outputs = silent_adds (λ o. string_bytes o.name) xs c.reserve.new.self.items c.push.new.self.items _ c.args.name.now c.reserve.ensures.items c.in-Ok-push.ensures.items c.in-Ok.ensures.ok;
+      outputs = silent_adds (λ o. string_bytes o.name) xs c.reserve.new.self.items c.push.new.self.items _ c.args.name.now c.reserve.ensures.items c.in-Ok.ensures.items c.in_ok-text.ensures.ok;
     }

@@ -1,28 +1,16 @@
-use Rattle.std.proofs.Common.{◌≡◌, ℕ, List, Some, string_bytes, refl, ap, arith}
-use Rattle.av_host.specs.Named.{live_name}
-use Rattle.av_host.proofs.NamedLemmas.{some_of, live_name_within}
-use Rattle.av_host.proofs.SilentLemmas.{silent_alters, silent_same}
+use Rattle.std.proofs.Common.{string_bytes, refl}
+use Rattle.std.proofs.lemmas.Result.{err_from_is_err_and}
+use Rattle.av_host.proofs.SilentLemmas.{within_of, silent_altered, silent_kept}
 use Rattle.av_host.proofs.real.RealHostHost.write.Goals as goal
 
-pub index_mut-output-requires : goal.index_mut-output-requires
-index_mut-output-requires g c =
-    let xs = c.args.self.now.outputs.items in
-    let live : (n : List ℕ) × (live_name (λ o. string_bytes o.name) xs c.args.id ≡ Some n) = some_of _ c.requires in
-    let within = live_name_within (λ o. string_bytes o.name) xs c.args.id live.0 live.1 in
-    omega (arith, within, c.args.self.now.outputs.ok.0)
+pub write_output-taken-requires : goal.write_output-taken-requires
+write_output-taken-requires g c = within_of (λ o. string_bytes o.name) c.args.self.now.outputs.items c.args.id c.requires
 
-pub returns-in-Ok-clause-written : goal.returns-in-Ok-clause-written
-returns-in-Ok-clause-written g c =
-    let xs = c.args.self.now.outputs.items in
-    let live : (n : List ℕ) × (live_name (λ o. string_bytes o.name) xs c.args.id ≡ Some n) = some_of _ c.requires in
-    let within = live_name_within (λ o. string_bytes o.name) xs c.args.id live.0 live.1 in
-    let same = ap (λ o. string_bytes o.name) c.index_mut-output.ensures.value in
-    record { held = refl; inputs = refl; said = refl; outputs = silent_alters (λ o. string_bytes o.name) xs c.args.id _ _ _ within same }
+pub returns-clause-written : goal.returns-clause-written
+returns-clause-written g c =
+    record { held = refl; inputs = refl; said = refl; outputs = silent_altered (λ o. string_bytes o.name) _ _ c.args.id _ _ c.requires c.write_output-taken.ensures.written (λ x y h. h.0) }
 
-pub returns-in-Err-clause-refused : goal.returns-in-Err-clause-refused
-returns-in-Err-clause-refused g c =
-    let xs = c.args.self.now.outputs.items in
-    let live : (n : List ℕ) × (live_name (λ o. string_bytes o.name) xs c.args.id ≡ Some n) = some_of _ c.requires in
-    let within = live_name_within (λ o. string_bytes o.name) xs c.args.id live.0 live.1 in
-    let same = ap (λ o. string_bytes o.name) c.index_mut-output.ensures.value in
-    record { held = refl; inputs = refl; said = refl; outputs = silent_same (λ o. string_bytes o.name) xs c.args.id _ _ within same }
+pub returns-in_err-moved-clause-refused : goal.returns-in_err-moved-clause-refused
+returns-in_err-moved-clause-refused g c =
+    let p = err_from_is_err_and c.from_residual.result c.from_residual.ensures.1 in
+    rw p.1 record { held = refl; inputs = refl; said = refl; outputs = silent_kept (λ o. string_bytes o.name) _ _ c.args.id _ c.requires c.write_output-taken.ensures.written (λ x y h. h.0) }

@@ -11,5 +11,5 @@ returns-clause-noted c before read =
     record {
       inputs = c.in_ok-note_name.ensures.noted before read.inputs;
       outputs = c.in_ok-note_name-2.ensures.noted before read.outputs;
-      waits = c.waits_behind-self.ensures word (waiting None before) read.waits ∙ ap is_some (sym (waiting_more None before (said_as role word)));
+      waits = c.waits_after-self.ensures word (waiting None before) read.waits ∙ ap is_some (sym (waiting_more None before (said_as role word)));
     }

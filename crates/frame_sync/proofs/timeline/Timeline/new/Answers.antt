@@ -3,7 +3,7 @@ use Rattle.frame_sync.specs.declared.rules.Rule.{Rule}
 use Rattle.frame_sync.specs.declared.rules.Before.TheVariants as before
 use Rattle.frame_sync.specs.declared.rules.After.TheVariants as after
 use Rattle.frame_sync.specs.Lanes.{AreEach}
-use Rattle.frame_sync.proofs.Growing.{IsFresh, fresh_none, fresh_more, fresh_all, stands_fresh}
+use Rattle.frame_sync.proofs.Growing.{IsFresh, fresh_none, fresh_more, fresh_all, represents_fresh}
 use Rattle.frame_sync.proofs.timeline.Timeline.new.Goals as goal
 
 pub rules-init : goal.rules-init
@@ -22,5 +22,5 @@ invariant_of-result c =
     omega arith
 
 pub returns : goal.returns
-returns c = stands_fresh c.rules.lanes.items c.args.rules
+returns c = represents_fresh c.rules.lanes.items c.args.rules
     (subst (AreEach IsFresh c.rules.lanes.items) c.as_slice-rule-items.ensures (fresh_all c.rules.lanes.items c.as_slice-rule-items.result.now c.rules.rule-index c.rules-test.false c.rules.invariant))

@@ -4,8 +4,8 @@ use Rattle.std.proofs.lemmas.Int.{to_z-of_z}
 use Rattle.std.proofs.lemmas.Option.{slice_get_read, slice_get_within, same_Some}
 use Rattle.frame_sync.specs.Histories.{pushed}
 use Rattle.frame_sync.specs.Lanes.{LaneValue, IsPast, IsOpen, IsPastAt}
-use Rattle.frame_sync.specs.Timelines.{StandsFor}
-use Rattle.frame_sync.proofs.Growing.{stands_pushed}
+use Rattle.frame_sync.specs.Timelines.{Represents}
+use Rattle.frame_sync.proofs.Growing.{represents_pushed}
 use Rattle.frame_sync.proofs.timeline.Timeline.push.Goals as goal
 
 on_ok : {X E : Type 0} (r : Result X E) {P Q : Type 0} → (P → Q) → OnOk r P → OnOk r Q
@@ -32,8 +32,8 @@ returns-clause-pushed c =
     let past : IsPastAt lanes c.args.input c.args.pts = subst (λ (ls : List LaneValue). IsPastAt ls c.args.input c.args.pts) (sym c.self.view_is) c.requires.past in
     let still = subst (λ (z : LaneValue). z.ended ≡ false) (same_Some is_open.0 l (sym is_open.1 ∙ at)) is_open.2 in
     let t : ℤ = to_z w64 (of_z w64 c.args.pts) in
-    on_ok c.push.result (λ e h stands.
-    let now : StandsFor lanes h = subst (λ (ls : List LaneValue). StandsFor ls h) (sym c.self.view_is) stands in
+    on_ok c.push.result (λ e h represents.
+    let now : Represents lanes h = subst (λ (ls : List LaneValue). Represents ls h) (sym c.self.view_is) represents in
     let same : t ≡ c.args.pts = to_z-of_z w64 c.args.pts c.ranges.pts in
     let is : c.push.new.self ≡ record l { waiting = l.waiting ++ c.args.pts ∷ [] } = e ∙ ap (λ (z : ℤ). record l { waiting = l.waiting ++ z ∷ [] }) same in
-    subst (λ (m : LaneValue). StandsFor (set lanes c.args.input m) (pushed c.args.input c.args.pts h)) (sym is) (stands_pushed lanes h c.args.input c.args.pts l at still (past l at) c.ranges.pts now)) c.push.ensures.pushed
+    subst (λ (m : LaneValue). Represents (set lanes c.args.input m) (pushed c.args.input c.args.pts h)) (sym is) (represents_pushed lanes h c.args.input c.args.pts l at still (past l at) c.ranges.pts now)) c.push.ensures.pushed

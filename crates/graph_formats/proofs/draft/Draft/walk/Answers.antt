@@ -1,6 +1,6 @@
 use Rattle.std.proofs.Common.{◌<◌, ◌≤◌, arith, ap, length, refl, Ok}
 use Rattle.std.proofs.lemmas.Option.{slice_get_read}
-use Rattle.graph_formats.proofs.Places.{contained}
+use Rattle.av_base.proofs.Lists.{contained}
 use Rattle.graph_formats.proofs.PartLemmas.{begun, not_begun, walking_more, walking_less, walking_all}
 use Rattle.graph_formats.proofs.draft.Draft.walk.Goals as goal
 

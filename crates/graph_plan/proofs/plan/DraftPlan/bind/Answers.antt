@@ -27,7 +27,7 @@ bound : (c : goal.After-drop-opens-inside-2) → IsBound c.args.self c.args.outp
 bound c =
     let found = rw (c.as_slice-pads.ensures, c.as_slice-files.ensures) at c.in_ok-taken.ensures.found in
     let each = rw c.as_slice-files.ensures at c.in_ok-taken.ensures.each in
-    let links = rw (c.as_slice.ensures.value, c.as_slice-pads.ensures) at c.in_ok-links.ensures.links in
+    let links = rw (c.as_slice.ensures.value, c.as_slice-pads.ensures) at c.in_ok-links.ensures in
     record {
       all_find = all_find found each;
       all_mapped = rw (c.as_slice-pads.ensures, c.as_slice-files.ensures) at c.in_ok-check_taken.ensures.mapped;

@@ -1,7 +1,0 @@
--- Filters without options.
-use Rattle.std.specs.Prelude.{[]}
-use Rattle.av_frame.specs.Meanings.{OptionRules, is_complete}
-use Rattle.av_frame.specs.declared.options.NoOptions.{NoOptions}
-
-abbrev pub no_rules : OptionRules NoOptions
-no_rules = record { count = 0; names = []; takes = λ o text. ⊥; has = λ options o text. Unit {0}; completes = is_complete }

@@ -1,0 +1,14 @@
+-- The limits of a command.
+use Rattle.std.specs.Prelude.{◌^◌, ℕ}
+
+-- the greatest number of bytes of a graph text
+abbrev pub greatest_text : ℕ
+greatest_text = 65_536
+
+-- the greatest number of filters of a graph
+abbrev pub most_filters : ℕ
+most_filters = 256
+
+-- the greatest number of bytes of an input
+abbrev pub greatest_input : ℕ
+greatest_input = 2 ^ 40
