@@ -32,7 +32,10 @@ pub(crate) fn create_apart<R: Files>(
                 return Err(io::Error::from(ErrorKind::AlreadyExists));
             }
         }
-        file.set_len(0)?;
+        // A file system may write all blocks of a truncated file when it is closed, so a new file isn't truncated.
+        if found.len() != 0 {
+            file.set_len(0)?;
+        }
     }
     Ok(file)
 }
