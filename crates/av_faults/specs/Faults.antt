@@ -1,12 +1,14 @@
 -- What stops a command, its status and its line.
 use Rattle.std.specs.Prelude.{◌≡◌, ◌⊎◌, ℕ, List, [], ◌∷◌, ◌++◌, codes}
 use Rattle.std.specs.Fmt.{decimal, signed_decimal}
+use Rattle.av_base.specs.declared.failure.Failure.{Failure}
+use Rattle.av_base.specs.declared.failure.Failure.TheVariants as failure
 use Rattle.av_text.specs.declared.fault.TextKind.{TextKind}
 use Rattle.av_text.specs.declared.fault.TextKind.TheVariants.{UnclosedQuote, LoneEscape, ExpectedName, BadLabel, Stray}
 use Rattle.av_faults.specs.declared.fault.Fault.{Fault}
 use Rattle.av_faults.specs.declared.fault.LimitKind.{LimitKind}
-use Rattle.av_faults.specs.declared.fault.LimitKind.TheVariants.{Text, Filters}
-use Rattle.av_faults.specs.declared.fault.Fault.TheVariants.{UnknownWord, MissingValue, BadNumber, BadEnding, SameName, NoGraph, NoOutput, NotYet, UnknownFilter, UnknownOption, TooManyValues, BadValue, MissingOption, NoCommonFormat, SizeMismatch, BadGeometry, TooLarge, TimeBaseRange, NoValue, OpenFault, ReadFault, WriteFault, TextFault, Limit}
+use Rattle.av_faults.specs.declared.fault.LimitKind.TheVariants.{Text, Inputs, Outputs, Filters, Links}
+use Rattle.av_faults.specs.declared.fault.Fault.TheVariants.{UnknownWord, MissingValue, BadNumber, BadEnding, SameName, NoGraph, NoOutput, NotYet, UnknownFilter, UnknownOption, TooManyValues, BadValue, MissingOption, PadCount, LabelTwice, UnknownInput, MediaMismatch, Cycle, OpenPad, Unmapped, NoSuchOutput, WrongKind, NoCommonFormat, SizeMismatch, BadGeometry, TooLarge, TimeBaseRange, NoValue, OpenFault, ReadFault, WriteFault, TextFault, Limit}
 use Rattle.av_faults.specs.declared.fault.Stop.{Stop}
 use Rattle.av_faults.specs.declared.fault.Stop.TheVariants as stop
 
@@ -24,6 +26,15 @@ stop_status (stop.Fault (UnknownOption filter option)) = 4
 stop_status (stop.Fault (TooManyValues filter option)) = 4
 stop_status (stop.Fault (BadValue filter option)) = 4
 stop_status (stop.Fault (MissingOption filter)) = 4
+stop_status (stop.Fault (PadCount filter)) = 5
+stop_status (stop.Fault (LabelTwice filter)) = 5
+stop_status (stop.Fault (UnknownInput filter)) = 5
+stop_status (stop.Fault (MediaMismatch filter)) = 5
+stop_status (stop.Fault (Cycle filter)) = 5
+stop_status (stop.Fault (OpenPad filter pad)) = 5
+stop_status (stop.Fault (Unmapped filter pad)) = 5
+stop_status (stop.Fault (NoSuchOutput output)) = 5
+stop_status (stop.Fault (WrongKind output)) = 5
 stop_status (stop.Fault (NoCommonFormat link)) = 7
 stop_status (stop.Fault (SizeMismatch filter a b)) = 8
 stop_status (stop.Fault (BadGeometry filter found allowed)) = 8
@@ -46,7 +57,10 @@ kind_word Stray = codes "Stray"
 
 abbrev pub limit_word : LimitKind → List ℕ
 limit_word Text = codes "text"
+limit_word Inputs = codes "inputs"
+limit_word Outputs = codes "outputs"
 limit_word Filters = codes "filters"
+limit_word Links = codes "links"
 
 -- the name of a stop, and its fields
 abbrev pub stop_text : Stop → List ℕ
@@ -63,6 +77,15 @@ stop_text (stop.Fault (UnknownOption filter option)) = codes "UnknownOption filt
 stop_text (stop.Fault (TooManyValues filter option)) = codes "TooManyValues filter=" ++ decimal filter ++ codes " option=" ++ decimal option
 stop_text (stop.Fault (BadValue filter option)) = codes "BadValue filter=" ++ decimal filter ++ codes " option=" ++ decimal option
 stop_text (stop.Fault (MissingOption filter)) = codes "MissingOption filter=" ++ decimal filter
+stop_text (stop.Fault (PadCount filter)) = codes "PadCount filter=" ++ decimal filter
+stop_text (stop.Fault (LabelTwice filter)) = codes "LabelTwice filter=" ++ decimal filter
+stop_text (stop.Fault (UnknownInput filter)) = codes "UnknownInput filter=" ++ decimal filter
+stop_text (stop.Fault (MediaMismatch filter)) = codes "MediaMismatch filter=" ++ decimal filter
+stop_text (stop.Fault (Cycle filter)) = codes "Cycle filter=" ++ decimal filter
+stop_text (stop.Fault (OpenPad filter pad)) = codes "OpenPad filter=" ++ decimal filter ++ codes " pad=" ++ decimal pad
+stop_text (stop.Fault (Unmapped filter pad)) = codes "Unmapped filter=" ++ decimal filter ++ codes " pad=" ++ decimal pad
+stop_text (stop.Fault (NoSuchOutput output)) = codes "NoSuchOutput output=" ++ decimal output
+stop_text (stop.Fault (WrongKind output)) = codes "WrongKind output=" ++ decimal output
 stop_text (stop.Fault (NoCommonFormat link)) = codes "NoCommonFormat link=" ++ decimal link
 stop_text (stop.Fault (SizeMismatch filter a b)) = codes "SizeMismatch filter=" ++ decimal filter ++ codes " a=" ++ decimal a ++ codes " b=" ++ decimal b
 stop_text (stop.Fault (BadGeometry filter found allowed)) =
@@ -81,10 +104,15 @@ stop_text stop.NoMemory = codes "NoMemory"
 abbrev pub stop_line : Stop → List ℕ
 stop_line stops = codes "avgraph: " ++ stop_text stops ++ 10 ∷ []
 
--- a fault of the graph text, of its filters' names and options, or of a limit
-abbrev pub IsOfText : Fault → Type 0
-IsOfText fault = (stop_status (stop.Fault fault) ≡ 3) ⊎ ((stop_status (stop.Fault fault) ≡ 4) ⊎ (stop_status (stop.Fault fault) ≡ 10))
+-- what stops the command if a call returns no value
+abbrev pub stop_of : Failure Fault → Stop
+stop_of (failure.Fault fault) = stop.Fault fault
+stop_of failure.NoMemory = stop.NoMemory
 
--- a fault of a file, or of what filters make of its shape
-abbrev pub IsOfFile : Fault → Type 0
-IsOfFile fault = (stop_status (stop.Fault fault) ≡ 7) ⊎ ((stop_status (stop.Fault fault) ≡ 8) ⊎ (stop_status (stop.Fault fault) ≡ 15))
+-- the statuses of faults of the words, of the graph text, of its filters' names and options, of its links, and of limits
+abbrev pub IsOfWords : ℕ → Type 0
+IsOfWords status = (status ≡ 2) ⊎ ((status ≡ 3) ⊎ ((status ≡ 4) ⊎ ((status ≡ 5) ⊎ (status ≡ 10))))
+
+-- the statuses of faults of a file, and of what filters make of its shape
+abbrev pub IsOfFile : ℕ → Type 0
+IsOfFile status = (status ≡ 7) ⊎ ((status ≡ 8) ⊎ (status ≡ 15))

@@ -5,16 +5,24 @@ ghost use Rattle.arrayvec.specs.ArrayString.{array_string_len};
 ghost use Rattle.av_faults.specs.Faults.{kind_word, limit_word, stop_text, stop_line, stop_status};
 
 use arrayvec::ArrayString;
+use av_base::{Failure, NoMemory};
 use av_text::TextKind;
 use itoa::Buffer;
+use std::alloc::{AllocError, AllocFailed};
 
 /// A quantity that has a limit.
 #[derive(Clone, Copy, Debug, PartialEq, Eq)]
 pub enum LimitKind {
     /// Bytes of the graph text.
     Text,
+    /// Inputs of the command.
+    Inputs,
+    /// Output files of the command.
+    Outputs,
     /// Filters of the graph.
     Filters,
+    /// Links of the graph: its input pads and the output files.
+    Links,
 }
 
 /// What stops the command, besides out of memory. A host's fault is counted once, since it ends the run.
@@ -82,6 +90,55 @@ pub enum Fault {
     MissingOption {
         /// The filter's number.
         filter: u32,
+    },
+    /// A filter has more labels than pads, or too few inputs for the filter before it.
+    PadCount {
+        /// The filter's number.
+        filter: u32,
+    },
+    /// A label is on two output pads, or on an output pad and on two input pads.
+    LabelTwice {
+        /// The filter's number.
+        filter: u32,
+    },
+    /// The label of an input pad is on no output pad and names no input.
+    UnknownInput {
+        /// The filter's number.
+        filter: u32,
+    },
+    /// One end of a link is video and the other audio, or a label says another kind than its input's.
+    MediaMismatch {
+        /// The number of the filter that the link leads to.
+        filter: u32,
+    },
+    /// A filter takes, over links, from itself.
+    Cycle {
+        /// The filter's number.
+        filter: u32,
+    },
+    /// There is no input left for an input pad without a label.
+    OpenPad {
+        /// The filter's number.
+        filter: u32,
+        /// The pad's number, counted from 0.
+        pad: u32,
+    },
+    /// No output file takes an output pad.
+    Unmapped {
+        /// The filter's number.
+        filter: u32,
+        /// The pad's number, counted from 0.
+        pad: u32,
+    },
+    /// No output pad is there for an output file, or an earlier file took it.
+    NoSuchOutput {
+        /// The output's number, counted from 0.
+        output: u32,
+    },
+    /// A Y4M file takes audio, or a WAV file video.
+    WrongKind {
+        /// The output's number, counted from 0.
+        output: u32,
     },
     /// No format suits all filters on a part of the graph.
     NoCommonFormat {
@@ -160,8 +217,55 @@ pub enum Stop {
     NoMemory,
 }
 
-/// The room for a line, in bytes. No line fills it.
-const LINE_ROOM: usize = 128;
+impl From<Failure<Fault>> for Stop {
+    ghost use Rattle.std.specs.Prelude.{◌≡◌};
+    ghost use Rattle.av_faults.specs.Faults.{stop_of};
+
+    ghost from_gives = { λ failure stop. stop ≡ stop_of failure };
+
+    fn from(failure: Failure<Fault>) -> Stop {
+        match failure {
+            Failure::Fault(fault) => Stop::Fault(fault),
+            Failure::NoMemory => Stop::NoMemory,
+        }
+    }
+}
+
+impl From<NoMemory> for Stop {
+    ghost use Rattle.std.specs.Prelude.{◌≡◌};
+    ghost use Rattle.av_faults.specs.declared.fault.Stop.{Stop};
+
+    ghost from_gives = { λ _ stop. stop ≡ Stop.NoMemory };
+
+    fn from(_refused: NoMemory) -> Stop {
+        Stop::NoMemory
+    }
+}
+
+impl From<AllocError> for Stop {
+    ghost use Rattle.std.specs.Prelude.{◌≡◌};
+    ghost use Rattle.av_faults.specs.declared.fault.Stop.{Stop};
+
+    ghost from_gives = { λ _ stop. stop ≡ Stop.NoMemory };
+
+    fn from(_refused: AllocError) -> Stop {
+        Stop::NoMemory
+    }
+}
+
+impl<T: Drop> From<AllocFailed<T>> for Stop {
+    ghost use Rattle.std.specs.Prelude.{◌≡◌};
+    ghost use Rattle.av_faults.specs.declared.fault.Stop.{Stop};
+
+    ghost from_gives = { λ _ stop. stop ≡ Stop.NoMemory };
+
+    fn from(_refused: AllocFailed<T>) -> Stop {
+        Stop::NoMemory
+    }
+}
+
+/// The room for a line, in bytes, and for the two lines of a report. They do not fill it.
+pub const LINE_ROOM: usize = 160;
 
 /// The word for a fault of the graph text.
 fn kind_word(kind: TextKind) -> &'static str
@@ -184,7 +288,10 @@ fn limit_word(kind: LimitKind) -> &'static str
 {
     match kind {
         LimitKind::Text => "text",
+        LimitKind::Inputs => "inputs",
+        LimitKind::Outputs => "outputs",
         LimitKind::Filters => "filters",
+        LimitKind::Links => "links",
     }
 }
 
@@ -199,7 +306,7 @@ fn put_word(line: &mut ArrayString<LINE_ROOM>, name: &str, word: &str)
 }
 
 /// Appends a field's name and its number.
-fn put_number(line: &mut ArrayString<LINE_ROOM>, name: &str, number: u64)
+pub(crate) fn put_number(line: &mut ArrayString<LINE_ROOM>, name: &str, number: u64)
     requires { array_string_len line.old + length name.now + 20 ≤ LINE_ROOM }
     ensures text { line.new.bytes ≡ line.old.bytes ++ name.now ++ decimal number }
     ensures len { array_string_len line.new ≤ array_string_len line.old + length name.now + 20 }
@@ -227,14 +334,15 @@ fn put_one(line: &mut ArrayString<LINE_ROOM>, name: &str, number: u32)
     put_number(line, name, u64::from(number));
 }
 
-/// Appends the name of a fault, and the numbers of a filter and of its option.
-fn put_option(line: &mut ArrayString<LINE_ROOM>, name: &str, filter: u32, option: u32)
-    requires { array_string_len line.old + length name.now ≤ 40 }
-    ensures text { line.new.bytes ≡ line.old.bytes ++ name.now ++ decimal filter ++ codes " option=" ++ decimal option }
+/// Appends the name of a fault and of its two fields, and the numbers of these.
+fn put_two(line: &mut ArrayString<LINE_ROOM>, name: &str, number: u32, field: &str, other: u32)
+    requires name { array_string_len line.old + length name.now ≤ 40 }
+    requires field { length field.now ≤ 16 }
+    ensures text { line.new.bytes ≡ line.old.bytes ++ name.now ++ decimal number ++ field.now ++ decimal other }
     ensures room { array_string_len line.new < LINE_ROOM }
 {
-    put_number(line, name, u64::from(filter));
-    put_number(line, " option=", u64::from(option));
+    put_number(line, name, u64::from(number));
+    put_number(line, field, u64::from(other));
 }
 
 /// Appends two sizes that differ.
@@ -311,14 +419,17 @@ fn put_setting(line: &mut ArrayString<LINE_ROOM>, fault: Fault)
             allowed,
         } => put_large(line, filter, found, allowed),
         Fault::TimeBaseRange { filter } => put_one(line, "TimeBaseRange filter=", filter),
-        Fault::NoValue { filter, option } => put_option(line, "NoValue filter=", filter, option),
+        Fault::NoValue { filter, option } => {
+            put_two(line, "NoValue filter=", filter, " option=", option)
+        }
         _ => unreachable!(),
     }
 }
 
-/// Appends the name of a fault and its fields.
-fn put_fault(line: &mut ArrayString<LINE_ROOM>, fault: Fault)
-    requires { array_string_len line.old ≤ 16 }
+/// Appends the name of a fault of the words and its fields.
+fn put_words(line: &mut ArrayString<LINE_ROOM>, fault: Fault)
+    requires len { array_string_len line.old ≤ 16 }
+    requires words { stop_status (Stop.Fault fault) ≡ 2 }
     ensures text { line.new.bytes ≡ line.old.bytes ++ stop_text (Stop.Fault fault) }
     ensures room { array_string_len line.new < LINE_ROOM }
 {
@@ -330,31 +441,80 @@ fn put_fault(line: &mut ArrayString<LINE_ROOM>, fault: Fault)
         Fault::SameName { word } => put_number(line, "SameName word=", word),
         Fault::NoGraph => line.push_str("NoGraph"),
         Fault::NoOutput => line.push_str("NoOutput"),
+        _ => unreachable!(),
+    }
+}
+
+/// Appends the name of a fault of a filter's name or options and its fields.
+fn put_options(line: &mut ArrayString<LINE_ROOM>, fault: Fault)
+    requires len { array_string_len line.old ≤ 16 }
+    requires options { stop_status (Stop.Fault fault) ≡ 4 }
+    ensures text { line.new.bytes ≡ line.old.bytes ++ stop_text (Stop.Fault fault) }
+    ensures room { array_string_len line.new < LINE_ROOM }
+{
+    match fault {
+        Fault::UnknownFilter { filter } => put_one(line, "UnknownFilter filter=", filter),
+        Fault::UnknownOption { filter, option } => {
+            put_two(line, "UnknownOption filter=", filter, " option=", option)
+        }
+        Fault::TooManyValues { filter, option } => {
+            put_two(line, "TooManyValues filter=", filter, " option=", option)
+        }
+        Fault::BadValue { filter, option } => {
+            put_two(line, "BadValue filter=", filter, " option=", option)
+        }
+        Fault::MissingOption { filter } => put_one(line, "MissingOption filter=", filter),
+        _ => unreachable!(),
+    }
+}
+
+/// Appends the name of a fault of the graph's links and its fields.
+fn put_links(line: &mut ArrayString<LINE_ROOM>, fault: Fault)
+    requires len { array_string_len line.old ≤ 16 }
+    requires links { stop_status (Stop.Fault fault) ≡ 5 }
+    ensures text { line.new.bytes ≡ line.old.bytes ++ stop_text (Stop.Fault fault) }
+    ensures room { array_string_len line.new < LINE_ROOM }
+{
+    match fault {
+        Fault::PadCount { filter } => put_one(line, "PadCount filter=", filter),
+        Fault::LabelTwice { filter } => put_one(line, "LabelTwice filter=", filter),
+        Fault::UnknownInput { filter } => put_one(line, "UnknownInput filter=", filter),
+        Fault::MediaMismatch { filter } => put_one(line, "MediaMismatch filter=", filter),
+        Fault::Cycle { filter } => put_one(line, "Cycle filter=", filter),
+        Fault::OpenPad { filter, pad } => put_two(line, "OpenPad filter=", filter, " pad=", pad),
+        Fault::Unmapped { filter, pad } => put_two(line, "Unmapped filter=", filter, " pad=", pad),
+        Fault::NoSuchOutput { output } => put_one(line, "NoSuchOutput output=", output),
+        Fault::WrongKind { output } => put_one(line, "WrongKind output=", output),
+        _ => unreachable!(),
+    }
+}
+
+/// Appends the name of a fault and its fields.
+fn put_fault(line: &mut ArrayString<LINE_ROOM>, fault: Fault)
+    requires { array_string_len line.old ≤ 16 }
+    ensures text { line.new.bytes ≡ line.old.bytes ++ stop_text (Stop.Fault fault) }
+    ensures room { array_string_len line.new < LINE_ROOM }
+{
+    match status(Stop::Fault(fault)) {
+        2 => return put_words(line, fault),
+        4 => return put_options(line, fault),
+        5 => return put_links(line, fault),
+        8 => return put_setting(line, fault),
+        _ => {}
+    }
+    match fault {
         Fault::NotYet => line.push_str("NotYet"),
         Fault::OpenFault => line.push_str("OpenFault count=1"),
         Fault::ReadFault => line.push_str("ReadFault count=1"),
         Fault::WriteFault => line.push_str("WriteFault count=1"),
-        Fault::UnknownFilter { filter } => put_one(line, "UnknownFilter filter=", filter),
-        Fault::UnknownOption { filter, option } => {
-            put_option(line, "UnknownOption filter=", filter, option)
-        }
-        Fault::TooManyValues { filter, option } => {
-            put_option(line, "TooManyValues filter=", filter, option)
-        }
-        Fault::BadValue { filter, option } => put_option(line, "BadValue filter=", filter, option),
-        Fault::MissingOption { filter } => put_one(line, "MissingOption filter=", filter),
         Fault::NoCommonFormat { link } => put_one(line, "NoCommonFormat link=", link),
-        Fault::SizeMismatch { .. }
-        | Fault::BadGeometry { .. }
-        | Fault::TooLarge { .. }
-        | Fault::TimeBaseRange { .. }
-        | Fault::NoValue { .. } => put_setting(line, fault),
         Fault::TextFault { at, kind } => put_text_fault(line, at, kind),
         Fault::Limit {
             kind,
             which,
             allowed,
         } => put_limit(line, kind, which, allowed),
+        _ => unreachable!(),
     }
 }
 
@@ -403,6 +563,17 @@ pub fn status(stop: Stop) -> u8
             | Fault::BadValue { .. }
             | Fault::MissingOption { .. },
         ) => 4,
+        Stop::Fault(
+            Fault::PadCount { .. }
+            | Fault::LabelTwice { .. }
+            | Fault::UnknownInput { .. }
+            | Fault::MediaMismatch { .. }
+            | Fault::Cycle { .. }
+            | Fault::OpenPad { .. }
+            | Fault::Unmapped { .. }
+            | Fault::NoSuchOutput { .. }
+            | Fault::WrongKind { .. },
+        ) => 5,
         Stop::Fault(Fault::NoCommonFormat { .. }) => 7,
         Stop::Fault(
             Fault::SizeMismatch { .. }

@@ -1,6 +1,7 @@
 //! The lines and the statuses of stops.
 
 use crate::fault::{Fault, LimitKind, Stop, line, status};
+use crate::report::{input_line, output_line};
 use av_text::TextKind;
 
 #[test]
@@ -65,6 +66,66 @@ fn a_fault_of_a_filter_shows_its_numbers(rt: HostRuntime) {
         assert_eq!(rt; line(stop).as_str(), text);
         assert_eq!(rt; status(stop), code, "{text}");
     }
+}
+
+#[test]
+fn a_fault_of_the_links_shows_its_filter_and_pad_or_its_output(rt: HostRuntime) {
+    for (fault, text) in [
+        (
+            Fault::PadCount { filter: 1 },
+            "avgraph: PadCount filter=1\n",
+        ),
+        (
+            Fault::LabelTwice { filter: 2 },
+            "avgraph: LabelTwice filter=2\n",
+        ),
+        (
+            Fault::UnknownInput { filter: 0 },
+            "avgraph: UnknownInput filter=0\n",
+        ),
+        (
+            Fault::MediaMismatch { filter: 3 },
+            "avgraph: MediaMismatch filter=3\n",
+        ),
+        (Fault::Cycle { filter: 0 }, "avgraph: Cycle filter=0\n"),
+        (
+            Fault::OpenPad { filter: 4, pad: 1 },
+            "avgraph: OpenPad filter=4 pad=1\n",
+        ),
+        (
+            Fault::Unmapped {
+                filter: 4294967295,
+                pad: 4294967295,
+            },
+            "avgraph: Unmapped filter=4294967295 pad=4294967295\n",
+        ),
+        (
+            Fault::NoSuchOutput { output: 0 },
+            "avgraph: NoSuchOutput output=0\n",
+        ),
+        (
+            Fault::WrongKind { output: 31 },
+            "avgraph: WrongKind output=31\n",
+        ),
+    ] {
+        let stop = Stop::Fault(fault);
+        assert_eq!(rt; line(stop).as_str(), text);
+        assert_eq!(rt; status(stop), 5, "{text}");
+    }
+}
+
+#[test]
+fn a_report_has_a_line_for_an_input_and_for_an_output(rt: HostRuntime) {
+    assert_eq!(rt; input_line(0, 1).as_str(), "in 0 frames 1\n");
+    assert_eq!(rt;
+        input_line(4294967295, 18446744073709551615).as_str(),
+        "in 4294967295 frames 18446744073709551615\n"
+    );
+    assert_eq!(rt; output_line(0, 1, 57).as_str(), "out 0 frames 1 bytes 57\n");
+    assert_eq!(rt;
+        output_line(4294967295, 18446744073709551615, 18446744073709551615).as_str(),
+        "out 4294967295 frames 18446744073709551615 bytes 18446744073709551615\n"
+    );
 }
 
 #[test]
@@ -145,10 +206,22 @@ fn a_limit_tells_its_quantity_and_its_numbers(rt: HostRuntime) {
             "avgraph: Limit kind=text which=0 allowed=65536\n",
         ),
         (
-            LimitKind::Filters,
+            LimitKind::Inputs,
             10,
             0,
-            "avgraph: Limit kind=filters which=10 allowed=0\n",
+            "avgraph: Limit kind=inputs which=10 allowed=0\n",
+        ),
+        (
+            LimitKind::Outputs,
+            0,
+            32,
+            "avgraph: Limit kind=outputs which=0 allowed=32\n",
+        ),
+        (
+            LimitKind::Links,
+            0,
+            1024,
+            "avgraph: Limit kind=links which=0 allowed=1024\n",
         ),
         (
             LimitKind::Filters,

@@ -42,7 +42,7 @@ joined_filters c d = record {
 
 module _ {O S T : Type 0} (w : Wrapper S T) (m : Making O S) (reads : Result O OptionError → Type 0) where
   pub inside_one_reading : HasOneReading m reads → HasOneReading (wrapped_making same_options w m) reads
-  inside_one_reading h = record { some = h.some; follows = λ o r x y. inside_follows same_options w m o r (h.follows o r x y); not_both = h.not_both; one_fault = h.one_fault }
+  inside_one_reading h = record { some = h.some; follows = λ o r x y. inside_follows same_options w m o r (h.follows o r x y); not_both = h.not_both; one_fault = h.one_fault; no_memory = h.no_memory }
 
   pub inside_one_outcome : HasOneOutcome m reads → HasOneOutcome (wrapped_making same_options w m) reads
   inside_one_outcome h o s k picture takes = of_one w.wrap (m.settles o s) (h o s k picture takes)

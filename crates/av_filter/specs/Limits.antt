@@ -1,13 +1,13 @@
 -- Shapes of pictures, and their limits.
-use Rattle.std.specs.Prelude.{◌≡◌, ◌⊎◌, ◌<◌, ◌≤◌, ◌-◌, ◌^◌, ℕ, min, Result, Err, refl}
+use Rattle.std.specs.Prelude.{◌≡◌, ◌≢◌, ◌⊎◌, ◌<◌, ◌≤◌, ◌-◌, ◌^◌, ℕ, min, Result, Err, refl}
 use Rattle.std.proofs.Common.{arith, inl, inr}
 use Rattle.std.proofs.lemmas.Bool.{cases_lt}
 use Rattle.av_base.specs.Planes.{picture_bytes_of}
 use Rattle.av_base.specs.Shapes.{pixel_format_of}
 use Rattle.av_base.specs.declared.shapes.Shape.{Shape}
 use Rattle.av_frame.specs.declared.refusals.ConfigError.{ConfigError}
-use Rattle.av_frame.specs.declared.refusals.ConfigError.TheVariants.{TooLarge}
-use Rattle.av_filter.specs.Outcomes.{IsOne, HasOne, AfterFault, after_fault}
+use Rattle.av_frame.specs.declared.refusals.ConfigError.TheVariants.{NoMemory, TooLarge}
+use Rattle.av_filter.specs.Outcomes.{IsOne, HasOne, AfterFault, after_fault, passed_others}
 use Rattle.av_base.specs.Bounds.{greatest_side, greatest_picture}
 
 -- a picture of this size keeps to the limits
@@ -45,6 +45,16 @@ limit_apart : {s : Shape} {w h : ℕ} {e : ConfigError} → IsSmall s w h → ¬
 limit_apart small (TooWide a) = let b = small.width in omega arith
 limit_apart small (TooHigh a b) = let c = small.height in omega arith
 limit_apart small (TooBig a b c) = let d = small.bytes in omega arith
+
+-- out of memory is no limit
+limit_memory : {s : Shape} {w h : ℕ} {e : ConfigError} → PassesLimit s w h e → NoMemory ≢ e
+limit_memory (TooWide a) is = cc
+limit_memory (TooHigh a b) is = cc
+limit_memory (TooBig a b c) is = cc
+
+-- so the limits are kept where that is the outcome
+pub limits_passed : {T B : Type 0} {s : Shape} {w h : ℕ} → ((e : ConfigError) × PassesLimit s w h e × ◌≡◌ {A = Result T ConfigError} (Err NoMemory) (Err e)) ⊎ B → B
+limits_passed outcome = passed_others (λ e past. limit_memory past) outcome
 
 limits_known : (s : Shape) (w h : ℕ) → ((e : ConfigError) × PassesLimit s w h e) ⊎ IsSmall s w h
 limits_known s w h = wide (cases_lt greatest_side w)

@@ -1,6 +1,6 @@
 -- What a filter means that makes one frame of each: its name, its options, the formats that it takes, the outcome of its
 -- settings, and what it makes of a frame.
-use Rattle.std.specs.Prelude.{◌≡◌, ℕ, List, [], ◌∷◌, Option, Result, Ok, Err, length, refl}
+use Rattle.std.specs.Prelude.{◌≡◌, ◌⊎◌, ℕ, List, [], ◌∷◌, Option, Result, Ok, Err, length, refl}
 use Rattle.av_base.specs.declared.formats.Format.{Format}
 use Rattle.av_base.specs.declared.shapes.Shape.{Shape}
 use Rattle.av_base.specs.declared.shapes.Props.{Props}
@@ -12,7 +12,9 @@ use Rattle.av_frame.specs.Rules.{SameTimes}
 use Rattle.av_filter.specs.Options.{HasGiven, AreTaken, IsFirstFault}
 use Rattle.av_filter.specs.Outcomes.{HasOne, AfterFault}
 use Rattle.av_frame.specs.declared.refusals.OptionError.{OptionError}
+use Rattle.av_frame.specs.declared.refusals.OptionError.TheVariants as option
 use Rattle.av_frame.specs.declared.refusals.ConfigError.{ConfigError}
+use Rattle.av_frame.specs.declared.refusals.ConfigError.TheVariants as config
 
 -- ---- options
 
@@ -76,12 +78,14 @@ pub record Follows {O S : Type 0} (m : Making O S) (a b : O) : Type 0 where
   pub takes : (f : Format) → m.takes a f → m.takes b f
   pub settles : (s : Shape) (r : Result S ConfigError) → m.settles a s r → m.settles b s r
 
--- Of everything that is read there is exactly one reading or one fault, always. (Two readings take and settle the same.)
+-- Of everything that is read there is exactly one reading or one fault, always, and out of memory is no fault of it. (Two
+-- readings take and settle the same.)
 pub record HasOneReading {O S : Type 0} (m : Making O S) (reads : Result O OptionError → Type 0) : Type 0 where
   pub some : (r : Result O OptionError) × reads r
   pub follows : (o p : O) → reads (Ok o) → reads (Ok p) → Follows m o p
   pub not_both : (o : O) (e : OptionError) → reads (Ok o) → ¬ reads (Err e)
   pub one_fault : (e f : OptionError) → reads (Err e) → reads (Err f) → e ≡ f
+  pub no_memory : ¬ reads (Err option.NoMemory)
 
 -- Options that were read have exactly one outcome, always, for pictures of every shape that they take.
 abbrev pub HasOneOutcome : {O S : Type 0} → Making O S → (Result O OptionError → Type 0) → Type 0
@@ -107,9 +111,12 @@ is_of_stream s = record { format = refl; props = same_stream s.props }
 
 -- ---- laws
 
--- Of settings: the output's shape is one of pictures within the limits, and of the input's stream. Of a frame: what is
--- made of it is shown when it is, and has the output's shape.
+-- Of each format it is known whether options take it. Of settings: out of memory is no fault of them, and the output's
+-- shape is one of pictures within the limits, and of the input's stream. Of a frame: what is made of it is shown when it
+-- is, and has the output's shape.
 pub record MakingLaws {O S : Type 0} (m : Making O S) : Type 0 where
+  pub decided : (o : O) (f : Format) → m.takes o f ⊎ ¬ m.takes o f
+  pub no_memory : (o : O) (s : Shape) → ¬ m.settles o s (Err config.NoMemory)
   pub pictured : (t : S) (s : Shape) → IsSettled m s t → IsPictured (m.shape t s)
   pub stream : (t : S) (s : Shape) → IsOfStream s (m.shape t s)
   pub keeps : (t : S) (x : FrameValue) → SameTimes x (m.made t x)

@@ -1,5 +1,5 @@
 -- Outcomes: chains of steps, in the order of the checks. A step fails with its fault, or it is passed and the next follows.
-use Rattle.std.specs.Prelude.{◌≡◌, ◌⊎◌, ℤ, ℕ, pos, Result, Ok, Err, refl}
+use Rattle.std.specs.Prelude.{◌≡◌, ◌≢◌, ◌⊎◌, ℤ, ℕ, pos, Result, Ok, Err, refl}
 use Rattle.std.proofs.Common.{◌∙◌, sym, subst, ap, inl, inr}
 
 -- ---- one outcome, always
@@ -27,6 +27,10 @@ AfterCheck holds fault next r = ((¬ holds) × (r ≡ fault)) ⊎ (holds × next
 abbrev pub AfterFault : {E R : Type 0} → (E → Type 0) → (E → R) → Type 0 → (R → Type 0) → R → Type 0
 AfterFault {E} {R} fault refused holds next r = ((e : E) × fault e × (r ≡ refused e)) ⊎ (holds × next r)
 
+-- a step that has one of several faults, or a value that the next takes
+abbrev pub AfterStep : {E X R : Type 0} → (E → Type 0) → (E → R) → (X → Type 0) → (X → R → Type 0) → R → Type 0
+AfterStep {E} {X} {R} fault refused has next r = ((e : E) × fault e × (r ≡ refused e)) ⊎ ((x : X) × has x × next x r)
+
 -- two whole numbers of which none is below 0
 abbrev pub AfterSizes : {R : Type 0} → ℤ → ℤ → (ℕ → ℕ → R → Type 0) → R → Type 0
 AfterSizes w h next r = (m n : ℕ) × (w ≡ pos m) × (h ≡ pos n) × next m n r
@@ -43,6 +47,16 @@ passed (inr rest) = rest
 pub passed_fault : {T E A B : Type 0} {P : A → Type 0} {f : A → E} {t : T} → ((e : A) × P e × ◌≡◌ {A = Result T E} (Ok t) (Err (f e))) ⊎ B → B
 passed_fault (inl bad) = absurd (let no = bad.2 in cc)
 passed_fault (inr rest) = rest
+
+-- ---- a step whose faults are others than that of an outcome is passed
+
+pub passed_other : {T E A B : Type 0} {e f : E} → e ≢ f → (A × ◌≡◌ {A = Result T E} (Err e) (Err f)) ⊎ B → B
+passed_other apart (inl bad) = absurd (apart (let same = bad.1 in cc))
+passed_other apart (inr rest) = rest
+
+pub passed_others : {T E A B : Type 0} {P : A → Type 0} {f : A → E} {e : E} → ((a : A) → P a → e ≢ f a) → ((a : A) × P a × ◌≡◌ {A = Result T E} (Err e) (Err (f a))) ⊎ B → B
+passed_others apart (inl bad) = absurd (apart bad.0 bad.1 (let same = bad.2 in cc))
+passed_others apart (inr rest) = rest
 
 -- ---- each step has one outcome if the next has
 
@@ -92,6 +106,29 @@ after_fault {E} {R} fault refused holds next known one apart rest = record {
     some : ((e : E) × fault e) ⊎ holds → (r : R) × AfterFault fault refused holds next r
     some (inl f) = (refused f.0, inl (f.0, f.1, refl))
     some (inr h) = let end = (rest h).some in (end.0, inr (h, end.1))
+
+-- what follows has the same outcomes for all values of a step
+abbrev pub AreAlike : {X R : Type 0} → (X → Type 0) → (X → R → Type 0) → Type 0
+AreAlike {X} {R} has next = (x y : X) (r : R) → has x → has y → next x r → next y r
+
+pub after_step : {E X R : Type 0} (fault : E → Type 0) (refused : E → R) (has : X → Type 0) (next : X → R → Type 0)
+    → ((x : X) × has x) ⊎ ((e : E) × fault e) → IsOne fault → ((x : X) (e : E) → has x → ¬ fault e) → AreAlike has next → ((x : X) → has x → HasOne (next x))
+    → HasOne (AfterStep fault refused has next)
+after_step {E} {X} {R} fault refused has next known one apart alike rest = record {
+  some = some known;
+  one = either_one (λ r. (e : E) × fault e × (r ≡ refused e)) (λ r. (x : X) × has x × next x r)
+      (λ a b p q. p.2 ∙ ap refused (one p.0 q.0 p.1 q.1) ∙ sym q.2)
+      (λ a b p q. (rest q.0 q.1).one a b (alike p.0 q.0 a p.1 q.1 p.2) q.2)
+      (λ a b p q. apart p.0 q.0 p.1 q.1);
+}
+  where
+    some : ((x : X) × has x) ⊎ ((e : E) × fault e) → (r : R) × AfterStep fault refused has next r
+    some (inl h) = let end = (rest h.0 h.1).some in (end.0, inr (h.0, h.1, end.1))
+    some (inr f) = (refused f.0, inl (f.0, f.1, refl))
+
+-- a step with one value at most
+pub alike_one : {X R : Type 0} (has : X → Type 0) (next : X → R → Type 0) → IsOne has → AreAlike has next
+alike_one has next one x y r p q h = subst (λ z. next z r) (one x y p q) h
 
 pub after_sizes : {R : Type 0} (w h : ℤ) (next : ℕ → ℕ → R → Type 0) (m n : ℕ) → w ≡ pos m → h ≡ pos n → HasOne (next m n) → HasOne (AfterSizes w h next)
 after_sizes {R} w h next m n wide high rest = record {

@@ -3,8 +3,9 @@ use Rattle.std.specs.Prelude.{◌≡◌, ◌<◌, ◌⊎◌, ℕ, List, Option, 
 use Rattle.std.proofs.Common.{◌∙◌, sym, ap, subst, inl, inr}
 use Rattle.av_text.specs.declared.arguments.Arg.{Arg}
 use Rattle.av_frame.specs.declared.refusals.OptionError.{OptionError}
+use Rattle.av_frame.specs.declared.refusals.OptionError.TheVariants.{NoMemory}
 use Rattle.av_filter.specs.Options.{HasGiven, AreTaken, IsFirstFault, IsGiven}
-use Rattle.av_filter.specs.OptionLaws.{one_given, one_first, none_first}
+use Rattle.av_filter.specs.OptionLaws.{one_given, one_first, none_first, first_memory}
 use Rattle.av_filter.specs.OptionExistence.{AreDecided, AreNumbered, given_some, given_taken, taken_or_refused}
 use Rattle.av_filter.specs.Outcomes.{IsOne, HasOne, same_ok}
 use Rattle.av_filter.specs.Meanings.{OptionRules, IsReading, Making, Follows, HasOneReading}
@@ -53,12 +54,13 @@ module _ {O : Type 0} (rules : OptionRules O) (laws : OptionLaws rules) (args : 
 -- arguments have one reading if nothing else is asked of options
 pub reading_law : {O S : Type 0} (m : Making O S) (rules : OptionRules O) → OptionLaws rules
     → ((options : O) (n : ℕ) → HasOne (rules.completes options n)) → ((options : O) (n : ℕ) (o : O) → rules.completes options n (Ok o) → o ≡ options)
-    → (args : List Arg) → HasOneReading m (IsReading rules args)
-reading_law {O} m rules laws completes same args = record {
+    → ((options : O) (n : ℕ) → ¬ rules.completes options n (Err NoMemory)) → (args : List Arg) → HasOneReading m (IsReading rules args)
+reading_law {O} m rules laws completes same lacks args = record {
   some = some (taken_or_refused laws.decided laws.numbered);
   follows = follows;
   not_both = apart;
   one_fault = fault;
+  no_memory = memory;
 }
   where
     is_ok : {a b : O} → ◌≡◌ {A = Result O OptionError} (Ok a) (Ok b) → a ≡ b
@@ -99,6 +101,10 @@ reading_law {O} m rules laws completes same args = record {
         let end : rules.completes x.1.0 (length args) (Err f) = subst (λ q. rules.completes q (length args) (Err f)) is y.1.2 in
         is_err ((completes x.1.0 (length args)).one (Err e) (Err f) x.1.2 end)
 
+    memory : ¬ IsReading rules args (Err NoMemory)
+    memory (inl x) = first_memory x.1 (is_err x.2)
+    memory (inr x) = lacks x.1.0 (length args) x.1.2
+
 -- the same for options that are always complete
 pub complete_law : {O S : Type 0} (m : Making O S) (rules : OptionRules O) → OptionLaws rules
     → ((options : O) (n : ℕ) (r : Result O OptionError) → rules.completes options n r → r ≡ Ok options) → ((options : O) (n : ℕ) → rules.completes options n (Ok options))
@@ -107,6 +113,7 @@ complete_law {O} m rules laws is holds =
     reading_law m rules laws
     (λ options n. record { some = (Ok options, holds options n); one = λ a b p q. is options n a p ∙ sym (is options n b q) })
     (λ options n o h. let same = is options n (Ok o) h in cc)
+    (λ options n h. let no = is options n (Err NoMemory) h in cc)
 
 -- options that are always complete have what arguments give
 pub given_of : {O : Type 0} (rules : OptionRules O) (args : List Arg) (o : O) → ((options : O) (n : ℕ) (r : Result O OptionError) → rules.completes options n r → r ≡ Ok options)

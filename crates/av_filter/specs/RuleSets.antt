@@ -11,7 +11,9 @@ use Rattle.av_text.specs.declared.arguments.Arg.{Arg}
 use Rattle.av_filter.specs.Words.{is_text}
 use Rattle.av_filter.specs.Meanings.{Meaning, MeaningLaws, Making, MakingLaws, IsSettled, IsOfStream, IsReading, Follows, HasOneReading, HasOneOutcome}
 use Rattle.av_frame.specs.declared.refusals.OptionError.{OptionError}
+use Rattle.av_frame.specs.declared.refusals.OptionError.TheVariants as option
 use Rattle.av_frame.specs.declared.refusals.ConfigError.{ConfigError}
+use Rattle.av_frame.specs.declared.refusals.ConfigError.TheVariants as config
 use Rattle.av_filter.specs.declared.rule_set.Or.{Or}
 use Rattle.av_filter.specs.declared.rule_set.Or.TheVariants.{First, Other}
 
@@ -73,6 +75,11 @@ of_one {A} {X} {E} f P h = record { some = some h.some.0 h.some.1; one = one }
     one q r (inr p) (inl k) = absurd (let no = h.one (Err p.0) (Ok k.0) p.2 k.2 in cc)
     one q r (inr p) (inr k) = p.1 ∙ ap Err (err_is (h.one (Err p.0) (Err k.0) p.2 k.2)) ∙ sym k.1
 
+-- what isn't a fault of the one isn't one of the other
+pub of_lacks : {A X E : Type 0} (f : A → X) (P : Result A E → Type 0) (e : E) → ¬ P (Err e) → ¬ IsOf f P (Err e)
+of_lacks f P e lacks (inl h) = absurd (let no = h.1 in cc)
+of_lacks {E = E} f P e lacks (inr h) = lacks (subst (λ (x : E). P (Err x)) (sym (err_is h.1)) h.2)
+
 -- readings of what is made of the value of another
 pub reading_of : {A M X Y : Type 0} (n : Making A M) (m : Making X Y) (f : A → X) (reads : Result A OptionError → Type 0)
     → ((o p : A) → Follows n o p → Follows m (f o) (f p)) → HasOneReading n reads → HasOneReading m (IsOf f reads)
@@ -81,6 +88,7 @@ reading_of {A} {M} {X} {Y} n m f reads follows h = record {
   follows = λ o p x y. same o p x y;
   not_both = λ o e x y. apart o e x y;
   one_fault = λ e g x y. fault e g x y;
+  no_memory = of_lacks f reads option.NoMemory h.no_memory;
 }
   where
     some : (r : Result A OptionError) → reads r → (q : Result X OptionError) × IsOf f reads q
@@ -121,6 +129,15 @@ module _ {O P S T : Type 0} (a : Making O S) (b : Making P T) where
       by (First o) p k (inl e) = absurd (let no = e.1 in cc)
       by (First o) p k (inr e) = absurd (let no = e.1 in cc)
 
+  or_decided : ((o : O) (f : Format) → a.takes o f ⊎ ¬ a.takes o f) → ((o : P) (f : Format) → b.takes o f ⊎ ¬ b.takes o f) → (o : Or O P) (f : Format) → or_takes a b o f ⊎ ¬ or_takes a b o f
+  or_decided p q (First o) f = p o f
+  or_decided p q (Other o) f = q o f
+
+  or_memory : ((o : O) (s : Shape) → ¬ a.settles o s (Err config.NoMemory)) → ((o : P) (s : Shape) → ¬ b.settles o s (Err config.NoMemory))
+      → (o : Or O P) (s : Shape) → ¬ or_settles a b o s (Err config.NoMemory)
+  or_memory p q (First o) s = of_lacks First (a.settles o s) config.NoMemory (p o s)
+  or_memory p q (Other o) s = of_lacks Other (b.settles o s) config.NoMemory (q o s)
+
   or_pictured : ((t : S) (s : Shape) → IsSettled a s t → IsPictured (a.shape t s)) → ((t : T) (s : Shape) → IsSettled b s t → IsPictured (b.shape t s))
       → (t : Or S T) (s : Shape) → IsSettled (or_making a b) s t → IsPictured (or_shape a b t s)
   or_pictured p q (First t) s h = p t s (first_settled t s h)
@@ -142,6 +159,8 @@ module _ {O P S T : Type 0} (a : Making O S) (b : Making P T) where
 
   pub or_laws : MakingLaws a → MakingLaws b → MakingLaws (or_making a b)
   or_laws p q = record {
+    decided = or_decided p.decided q.decided;
+    no_memory = or_memory p.no_memory q.no_memory;
     pictured = or_pictured p.pictured q.pictured;
     stream = or_stream p.stream q.stream;
     keeps = or_keeps p.keeps q.keeps;

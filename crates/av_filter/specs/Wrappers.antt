@@ -3,8 +3,9 @@ use Rattle.std.specs.Prelude.{◌≡◌, Result, Ok, Err}
 use Rattle.std.proofs.Common.{◌∙◌, sym, ap, subst, inl, inr, ⊎_elim}
 use Rattle.av_base.specs.declared.shapes.Shape.{Shape}
 use Rattle.av_filter.specs.Meanings.{Making, MakingLaws, IsSettled, Follows, HasOneReading, HasOneOutcome}
-use Rattle.av_filter.specs.RuleSets.{IsOf, ok_is, of_one, reading_of, Catalogue, CatalogueLaws}
+use Rattle.av_filter.specs.RuleSets.{IsOf, ok_is, of_one, of_lacks, reading_of, Catalogue, CatalogueLaws}
 use Rattle.av_frame.specs.declared.refusals.OptionError.{OptionError}
+use Rattle.av_frame.specs.declared.refusals.ConfigError.TheVariants.{NoMemory}
 
 -- each value of W has one of A inside
 pub record Wrapper (A W : Type 0) : Type 0 where
@@ -50,6 +51,8 @@ module _ {O P S T : Type 0} (p : Wrapper O P) (q : Wrapper S T) (a : Making O S)
 
   pub wrapped_making_laws : MakingLaws a → MakingLaws (wrapped_making p q a)
   wrapped_making_laws l = record {
+    decided = λ o. l.decided (p.inside o);
+    no_memory = λ o s. of_lacks q.wrap (a.settles (p.inside o) s) NoMemory (l.no_memory (p.inside o) s);
     pictured = λ t s h. l.pictured (q.inside t) s (settled_inside t s h);
     stream = λ t. l.stream (q.inside t);
     keeps = λ t. l.keeps (q.inside t);

@@ -72,6 +72,10 @@ fails_now m = plan_fails m.plan
 abbrev pub read_bound : MemoryHost → ℕ
 read_bound m = m.read_bound
 
+-- the most that a write takes
+abbrev pub write_bound : MemoryHost → ℕ
+write_bound m = m.write_bound
+
 -- how many more bytes can be printed
 abbrev pub room_to_say : MemoryHost → ℕ
 room_to_say m = said_room - length m.said.bytes.items
@@ -85,14 +89,16 @@ abbrev pub is_failed : {T : Type 0} → Result T HostError → Bool
 is_failed (Err Failed) = true
 is_failed other = false
 
--- No call was made, and which calls fail and the bound on reads stay.
+-- No call was made, and which calls fail and the bounds on reads and writes stay.
 pub record KeepsCalls (old new : MemoryHost) : Type 0 where
   pub made : calls_made new ≡ calls_made old
   pub failing : failing_calls new ≡ failing_calls old
   pub bound : read_bound new ≡ read_bound old
+  pub taking : write_bound new ≡ write_bound old
 
--- One more call was made, and which calls fail and the bound on reads stay.
+-- One more call was made, and which calls fail and the bounds on reads and writes stay.
 pub record CountsCall (old new : MemoryHost) : Type 0 where
   pub made : calls_made new ≡ raised (calls_made old)
   pub failing : failing_calls new ≡ failing_calls old
   pub bound : read_bound new ≡ read_bound old
+  pub taking : write_bound new ≡ write_bound old

@@ -3,7 +3,7 @@ ghost use Rattle.std.specs.Prelude.{◌≡◌, ◌++◌, ◌+◌, ◌-◌, ◌^�
 ghost use Rattle.av_host.specs.Calls.{ChangesAt, AddsInput, AddsOutput, patched, Rises};
 ghost use Rattle.av_host.specs.Bounds.{said_room};
 ghost use Rattle.av_host.specs.Named.{last_named};
-ghost use Rattle.av_host.specs.Memory.{memory_world, name_of, bytes_of, inputs_of, outputs_of, plan_fails, raised, calls_made, failing_calls, read_bound, KeepsCalls};
+ghost use Rattle.av_host.specs.Memory.{memory_world, name_of, bytes_of, inputs_of, outputs_of, plan_fails, raised, calls_made, failing_calls, read_bound, write_bound, KeepsCalls};
 
 use crate::parts::{CallPlan, Counts, MemoryHost, NamedBytes, SAID_ROOM, Said, Source};
 use av_base::NoMemory;
@@ -132,7 +132,7 @@ pub(crate) fn take_said(said: &mut Said, piece: &[u8]) -> usize
 
 impl MemoryHost {
     /// A host that holds no name, has no output, has printed nothing and has failed at no call. No
-    /// call was made, none is to fail, and reads have no bound.
+    /// call was made, none is to fail, and reads and writes have no bound.
     ///
     /// It takes the room for all that can be printed (`said_room`).
     pub fn new(alloc: Global) -> Result<MemoryHost, NoMemory>
@@ -148,6 +148,7 @@ impl MemoryHost {
         ensures calls { IfOk result (λ h. calls_made h ≡ 0) }
         ensures failing { IfOk result (λ h. failing_calls h ≡ []) }
         ensures bound { IfOk result (λ h. read_bound h ≡ usize.MAX) }
+        ensures taking { IfOk result (λ h. write_bound h ≡ usize.MAX) }
     {
         let bytes = Vec::with_capacity(alloc, SAID_ROOM)?;
         Ok(MemoryHost {
@@ -167,6 +168,7 @@ impl MemoryHost {
                 failing: Vec::new(alloc),
             },
             read_bound: usize::MAX,
+            write_bound: usize::MAX,
         })
     }
 
@@ -199,6 +201,7 @@ impl MemoryHost {
         ensures world { memory_world self.new ≡ memory_world self.old }
         ensures calls { calls_made self.new ≡ calls_made self.old }
         ensures bound { read_bound self.new ≡ read_bound self.old }
+        ensures taking { write_bound self.new ≡ write_bound self.old }
     {
         // The list grows by the allocator that `new` was given.
         self.plan.failing.push(call)?;
@@ -212,8 +215,21 @@ impl MemoryHost {
         ensures world { memory_world self.new ≡ memory_world self.old }
         ensures calls { calls_made self.new ≡ calls_made self.old }
         ensures failing { failing_calls self.new ≡ failing_calls self.old }
+        ensures taking { write_bound self.new ≡ write_bound self.old }
     {
         self.read_bound = bytes;
+    }
+
+    /// No write takes more than this many bytes, from now on. A patch is never cut.
+    pub fn take_at_most(&mut self, bytes: usize)
+        requires { 0 < bytes }
+        ensures bound { write_bound self.new ≡ bytes }
+        ensures world { memory_world self.new ≡ memory_world self.old }
+        ensures calls { calls_made self.new ≡ calls_made self.old }
+        ensures failing { failing_calls self.new ≡ failing_calls self.old }
+        ensures giving { read_bound self.new ≡ read_bound self.old }
+    {
+        self.write_bound = bytes;
     }
 
     /// What the output of that name holds, and `None` exactly if none was created.

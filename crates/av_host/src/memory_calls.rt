@@ -3,7 +3,7 @@
 ghost use Rattle.std.specs.Prelude.{◌≡◌, ◌+◌, ◌<◌, ◌≤◌, ◌||◌, ◌&&◌, [], ℕ, List, Some, take, drop, length, min, nat_lt, ◌==◌, is_none, is_err, IfOk, OnErr, MatchResult, IsTrue, IsSome};
 ghost use Rattle.std.specs.Option.{ForSome};
 ghost use Rattle.av_host.specs.Calls.{Stays, Opens, Reads, Creates, Changes, Says, appended, patched, Counts, RaisesOpenings, RaisesReads, RaisesWrites, RaisesSayings};
-ghost use Rattle.av_host.specs.Memory.{memory_world, fails_now, read_bound, room_to_say, raised, is_failed, CountsCall};
+ghost use Rattle.av_host.specs.Memory.{memory_world, fails_now, read_bound, write_bound, room_to_say, raised, is_failed, CountsCall};
 
 use crate::host::{Failed, Host, HostError};
 use crate::memory::{
@@ -100,16 +100,17 @@ impl Host for MemoryHost {
         ensures fails { is_failed result ≡ fails_now self.old }
         ensures raises { result ≡ Err HostError.Failed
             → (memory_world self.new).faults.writes ≡ raised (memory_world self.old).faults.writes }
-        ensures takes { IfOk result (λ n. n ≡ length piece.now) }
+        ensures takes { IfOk result (λ n. n ≡ min (length piece.now) (write_bound self.old)) }
         ensures counted { CountsCall self.old self.new }
     {
         if next_fails(&mut self.plan) {
             raise(&mut self.counts.writes);
             return Err(HostError::Failed);
         }
+        let taken = piece.len().min(self.write_bound);
         let made = &mut self.made[id as usize];
-        append_to(made, piece)?;
-        Ok(piece.len())
+        append_to(made, &piece[..taken])?;
+        Ok(taken)
     }
 
     fn patch(&mut self, id: u32, at: u64, piece: &[u8]) -> Result<(), Failed>

@@ -46,8 +46,8 @@ pub struct CallPlan {
     pub(crate) failing: Vec<u64>,
 }
 
-/// A host in memory, which knows everything. It can be set to fail at chosen calls, and to give
-/// few bytes at each read.
+/// A host in memory, which knows everything. It can be set to fail at chosen calls, to give few
+/// bytes at each read, and to take few at each write.
 ///
 /// It fails exactly at the calls that `fail_call` named, at an `open_input` of a name that was not
 /// added, and at a `say` that has no room left.
@@ -62,4 +62,6 @@ pub struct MemoryHost {
     pub(crate) plan: CallPlan,
     pub(crate) read_bound: usize,
     ghost gives: { 0 < read_bound },
+    pub(crate) write_bound: usize,
+    ghost takes: { 0 < write_bound },
 }

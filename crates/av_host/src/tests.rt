@@ -2,7 +2,7 @@
 ghost use Rattle.std.specs.Prelude.{◌≡◌, ◌≤◌, Some, length, IfOk, IsTrue, IsSome};
 ghost use Rattle.av_host.specs.Memory.{memory_world};
 
-use crate::{Failed, Host, HostError, MemoryHost};
+use crate::{Failed, Host, HostError, MemoryHost, write_all};
 use std::alloc::Global;
 use std::process::Abort;
 use std::test::Fail;
@@ -135,6 +135,18 @@ fn outputs_hold_what_was_written_and_patched(rt: HostRuntime) {
     assert!(rt; holds(&host, "out", b""));
     assert_eq!(rt; write_once(&mut host, again, "out", b"g"), Ok(1));
     assert!(rt; holds(&host, "out", b"g"));
+}
+
+#[test]
+fn an_output_is_whole_however_few_bytes_each_write_takes(rt: HostRuntime) {
+    for bound in [1, 2, 100] {
+        assert!(rt; bound > 0);
+        let mut host = host_with(&rt, rt.alloc(), b"");
+        host.take_at_most(bound);
+        let id = host.create("out").ok().expect(&rt, "an id");
+        assert_eq!(rt; write_all(&mut host, id, b"abcde"), Ok(()));
+        assert!(rt; holds(&host, "out", b"abcde"));
+    }
 }
 
 #[test]

@@ -12,8 +12,8 @@ use Rattle.av_faults.specs.declared.fault.Fault.TheVariants.{UnknownWord, BadNum
 use Rattle.av_words.specs.WordRoles.{Said}
 use Rattle.av_words.specs.WordValues.{SaysMade}
 use Rattle.av_words.specs.WordChecks.{HasLabel, IsLastOf}
-use Rattle.av_words.specs.WordFaults.{IsAt, Has, map_after, waiting, Takes, IsBadNumber, HasBadEnding}
-use Rattle.av_words.specs.CommandWords.{IsFaultless, is_input, SaysInput, Output, output_at, outputs_after}
+use Rattle.av_words.specs.WordFaults.{IsAt, Has, is_input, map_after, waiting, Takes, IsBadNumber, HasBadEnding}
+use Rattle.av_words.specs.CommandWords.{IsFaultless, SaysInput, Output, output_at, outputs_after}
 use Rattle.av_words.proofs.WordCheckLemmas.{said_as}
 
 -- an option takes its value

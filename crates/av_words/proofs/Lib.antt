@@ -2,4 +2,9 @@ mod WordRoleLemmas
 mod WordValueLemmas
 mod WordCheckLemmas
 mod CommandPartLemmas
-mod WordLawLemmas
+mod WholeLineLemmas
+mod Decisions
+mod FaultDecisions
+mod Existence
+pub mod WordLawLemmas
+pub mod CommandFacts

@@ -1,11 +1,12 @@
 -- What is known of words, word by word.
-use Rattle.std.proofs.Common.{◌≡◌, ◌<◌, ◌≤◌, ◌+◌, ◌-◌, ◌++◌, ◌⊎◌, ◌↔◌, ℕ, Bool, true, false, cond, not, zero, suc, List, [], ◌∷◌, Option, Some, None, option_map, get_or, length, take, drop, bytes_eq, IsTrue, nat_eq, lit<, refl, sym, ◌∙◌, ap, subst, inl, inr, arith}
+use Rattle.std.proofs.Common.{◌≡◌, ◌<◌, ◌≤◌, ◌+◌, ◌-◌, ◌++◌, ◌⊎◌, ◌↔◌, ℕ, Bool, true, false, cond, not, zero, suc, List, [], ◌∷◌, Option, Some, None, option_map, get_or, filter, length, take, drop, bytes_eq, IsTrue, nat_eq, lit<, refl, sym, ◌∙◌, ap, subst, inl, inr, arith}
 use Rattle.std.specs.List.{slice_get}
 use Rattle.std.specs.Option.{is_some, IfSome, IsNone}
 use Rattle.std.proofs.lemmas.Bool.{false≢true}
 use Rattle.std.proofs.lemmas.Bool.Decides.{Decides-eqb}
 use Rattle.std.proofs.lemmas.Option.{same_Some, none-some, slice_get_within, slice_get-map, slice_get-get_or}
 use Rattle.std.proofs.lemmas.List.{take_more, get_or-map, length-map, length-append, length-drop, drop_all}
+use Rattle.std.proofs.lemmas.List.Filters.{length-filter_more}
 use Rattle.std.proofs.lemmas.Slice.Eq.{bytes_eq-Decides}
 use Rattle.av_words.specs.declared.word_roles.Role.{Role}
 use Rattle.av_words.specs.declared.word_roles.Role.TheVariants.{Quiet, Value, File}
@@ -109,6 +110,17 @@ pub line_more : (items : List Item) (i : ℕ) (d : Item) → i < length items �
 line_more items i d within =
     let inside : i < length (line_of items) = omega (arith, length-map items said_of) in
     take_more (line_of items) i (said_of d) inside ∙ ap (λ (s : Said). take i (line_of items) ++ s ∷ []) (get_or-map said_of items i d (said_of d) within)
+
+-- a count of words of one kind, and one word more
+pub counted_more : (p : Said → Bool) (items : List Item) (i : ℕ) (d : Item) → i < length items
+    → (p (said_of (get_or items i d)) ≡ true → length (filter p (take (i + 1) (line_of items))) ≡ length (filter p (take i (line_of items))) + 1)
+    × (p (said_of (get_or items i d)) ≡ false → length (filter p (take (i + 1) (line_of items))) ≡ length (filter p (take i (line_of items))))
+counted_more p items i d within =
+    let one = length-filter_more p (line_of items) i (said_of d) (omega (arith, length-map items said_of)) in
+    let same = get_or-map said_of items i d (said_of d) within in (
+      λ e. one ∙ ap (λ (b : Bool). length (filter p (take i (line_of items))) + cond b 1 0) (ap p same ∙ e),
+      λ e. one ∙ ap (λ (b : Bool). length (filter p (take i (line_of items))) + cond b 1 0) (ap p same ∙ e) ∙ omega arith,
+    )
 
 -- ---- the last word of a role
 

@@ -1,12 +1,10 @@
--- Words mean one command or have one fault at most, and never both.
-use Rattle.std.proofs.Common.{◌≡◌, ◌<◌, ◌++◌, ◌⊎◌, ℕ, Bool, true, false, not, zero, suc, List, [], ◌∷◌, Result, Ok, Err, Option, Some, None, filter, drop, get_or, refl, sym, ◌∙◌, ap, subst, inl, inr, arith}
+-- Words mean one command or have one fault, and never both.
+use Rattle.std.proofs.Common.{◌≡◌, ◌++◌, ◌⊎◌, ℕ, Bool, zero, suc, List, [], ◌∷◌, Result, Ok, Err, Option, Some, None, filter, drop, get_or, refl, sym, ◌∙◌, ap, subst, inl, inr}
 use Rattle.std.specs.Result.{IsErr, IsErrAnd}
-use Rattle.std.specs.List.{AllZip, slice_get}
-use Rattle.std.specs.Option.{is_some}
-use Rattle.std.proofs.lemmas.Bool.{false≢true}
+use Rattle.std.specs.List.{AllZip}
 use Rattle.std.proofs.lemmas.Bool.{cases_order}
 use Rattle.std.proofs.lemmas.Bool.Decides.{same_from_decides}
-use Rattle.std.proofs.lemmas.Option.{same_Some, none-some}
+use Rattle.std.proofs.lemmas.Option.{same_Some}
 use Rattle.av_base.specs.declared.formats.Media.{Media}
 use Rattle.av_text.specs.Classes.{is_label}
 use Rattle.av_text.specs.Numbers.{IsNumber}
@@ -17,19 +15,21 @@ use Rattle.av_words.specs.declared.command_words.InputWord.{InputWord}
 use Rattle.av_words.specs.declared.command_words.InputWord.TheVariants as input
 use Rattle.av_words.specs.declared.command_words.OutputWord.{OutputWord}
 use Rattle.av_words.specs.declared.word_roles.Role.{Role}
-use Rattle.av_words.specs.declared.word_roles.Role.TheVariants.{Value, File}
+use Rattle.av_words.specs.declared.word_roles.Role.TheVariants.{Value}
 use Rattle.av_words.specs.declared.word_roles.Valued.{Valued}
 use Rattle.av_words.specs.declared.word_roles.Valued.TheVariants.{Workers, Slices, Order, Input, Generator, Graph}
 use Rattle.av_base.specs.declared.failure.Failure.{Failure}
 use Rattle.av_base.specs.declared.failure.Failure.TheVariants as error
 use Rattle.av_faults.specs.declared.fault.Fault.{Fault}
-use Rattle.av_faults.specs.declared.fault.Fault.TheVariants.{UnknownWord, MissingValue, BadNumber, BadEnding, SameName, NoGraph, NoOutput}
+use Rattle.av_faults.specs.declared.fault.Fault.TheVariants.{UnknownWord, MissingValue, BadNumber, BadEnding, SameName, NoGraph, NoOutput, Limit}
+use Rattle.av_faults.specs.declared.fault.LimitKind.TheVariants.{Text, Inputs, Outputs}
+use Rattle.av_words.specs.Bounds.{most_inputs, most_outputs, greatest_text}
 use Rattle.av_words.specs.WordRoles.{Said, said}
 use Rattle.av_words.specs.WordValues.{IsLabelled, IsCount, IsMade, SaysOrder, SaysMade}
-use Rattle.av_words.specs.WordFaults.{Lacks, IsLast, HasFault, word_of, rank_of, IsBefore, Precedes, IsFirstFault}
-use Rattle.av_words.specs.WordChecks.{HasNoneAt, IsLastOf}
-use Rattle.av_words.specs.CommandWords.{IsFaultless, SaysInputAs, SaysInput, is_input, Output, outputs_after, IsLabelOf, SaysOutput, IsSet, SaysCommand, WordsSayOneThing}
-use Rattle.av_words.proofs.WordCheckLemmas.{said_as}
+use Rattle.av_words.specs.WordFaults.{is_input, HasFault, word_of, rank_of, IsBefore, Precedes, IsFirstFault}
+use Rattle.av_words.specs.CommandWords.{SaysInputAs, SaysInput, Output, outputs_after, IsLabelOf, SaysOutput, IsSet, SaysCommand, WordsSayOneThing}
+use Rattle.av_words.proofs.WholeLineLemmas.{same_last}
+use Rattle.av_words.proofs.Existence.{one_of_both}
 use Rattle.av_base.specs.Failures.{IfFault, Refuses}
 
 -- ---- faults
@@ -41,6 +41,9 @@ fault_at (suc (suc zero)) (Some n) = BadNumber n
 fault_at (suc (suc (suc zero))) (Some n) = BadEnding n
 fault_at (suc (suc (suc (suc zero)))) (Some n) = SameName n
 fault_at (suc (suc (suc (suc (suc zero))))) None = NoGraph
+fault_at (suc (suc (suc (suc (suc (suc (suc zero))))))) None = Limit Inputs 0 most_inputs
+fault_at (suc (suc (suc (suc (suc (suc (suc (suc zero)))))))) None = Limit Outputs 0 most_outputs
+fault_at (suc (suc (suc (suc (suc (suc (suc (suc (suc zero))))))))) None = Limit Text 0 greatest_text
 fault_at other word = NoOutput
 
 is_at : (line : List Said) (f : Fault) → HasFault line f → f ≡ fault_at (rank_of f) (word_of f)
@@ -52,6 +55,9 @@ is_at line (BadEnding n) has = refl
 is_at line (SameName n) has = refl
 is_at line NoGraph has = refl
 is_at line NoOutput has = refl
+is_at line (Limit Inputs which allowed) has = ap (λ (n : ℕ). Limit Inputs n allowed) has.0 ∙ ap (λ (n : ℕ). Limit Inputs 0 n) has.1
+is_at line (Limit Outputs which allowed) has = ap (λ (n : ℕ). Limit Outputs n allowed) has.0 ∙ ap (λ (n : ℕ). Limit Outputs 0 n) has.1
+is_at line (Limit Text which allowed) has = ap (λ (n : ℕ). Limit Text n allowed) has.0 ∙ ap (λ (n : ℕ). Limit Text 0 n) has.1
 is_at line other has = absurd has
 
 order_words : (a b : Option ℕ) → (a ≡ b) ⊎ (IsBefore a b ⊎ IsBefore b a)
@@ -153,12 +159,6 @@ one_output o x y p q =
 
 -- ---- settings
 
-same_last : (line : List Said) (role : Role) (a b : ℕ) (x y : List ℕ) → IsLast line role a x → IsLast line role b y → x ≡ y
-same_last line role a b x y p q = elim (cases_order a b) [
-  | inl same ↦ ap (λ (s : Said). s.word) (same_Some (said_as role x) (said_as role y) (sym p.here ∙ (ap (slice_get line) same ∙ q.here)))
-  | inr apart ↦ elim apart [ inl less ↦ absurd (p.later b y less q.here) | inr more ↦ absurd (q.later a x more p.here) ]
-]
-
 one_setting : {X : Type 0} (line : List Said) (option : Valued) (Says : List ℕ → X → Type 0) (unset : X) → ((value : List ℕ) (x y : X) → Says value x → Says value y → x ≡ y)
     → (x y : X) → IsSet line option Says unset x → IsSet line option Says unset y → x ≡ y
 one_setting line option Says unset one x y p q = elim p [
@@ -203,63 +203,8 @@ words_say_one_thing = record {
   one_command = λ words a b p q. same_command (said words) a b p q;
   one_fault = λ words f g p q. same_fault (said words) f g p q;
   not_both = λ words command fault says is. says.faultless fault is.has;
+  one_of_both = one_of_both;
 }
-
--- ---- a whole line
-
--- no word has a fault
-abbrev pub AreClean : List Said → Type 0
-AreClean line = (n : ℕ) → HasNoneAt line n
-
-before_none : (o : Option ℕ) → IsBefore o None → (n : ℕ) × (o ≡ Some n)
-before_none (Some n) before = (n, refl)
-before_none None before = absurd before
-
-is_first : (line : List Said) (fault : Fault) → word_of fault ≡ None → HasFault line fault → AreClean line
-    → ((other : Fault) → word_of other ≡ None → rank_of other < rank_of fault → HasFault line other → ⊥) → IsFirstFault line fault
-is_first line fault last has clean first = record {
-  has = has;
-  first = λ other there comes. elim comes [
-    | inl before ↦ (let at = before_none (word_of other) (subst (λ (o : Option ℕ). IsBefore (word_of other) o) last before) in clean at.0 other at.1 there)
-    | inr same ↦ first other (same.0 ∙ last) same.1 there
-  ];
-}
-
-pub no_graph_first : (line : List Said) → AreClean line → Lacks line (Value Graph) → IsFirstFault line NoGraph
-no_graph_first line clean lacks = is_first line NoGraph refl lacks clean below
-  where
-    below : (other : Fault) → word_of other ≡ None → rank_of other < 5 → HasFault line other → ⊥
-    below (UnknownWord n) is less there = none-some n (sym is)
-    below (MissingValue n) is less there = none-some n (sym is)
-    below (BadNumber n) is less there = none-some n (sym is)
-    below (BadEnding n) is less there = none-some n (sym is)
-    below (SameName n) is less there = none-some n (sym is)
-    below NoGraph is less there = absurd (omega arith)
-    below NoOutput is less there = absurd (omega arith)
-    below rest is less there = absurd there
-
-pub no_output_first : (line : List Said) → AreClean line → (Lacks line (Value Graph) → ⊥) → Lacks line File → IsFirstFault line NoOutput
-no_output_first line clean graph lacks = is_first line NoOutput refl lacks clean below
-  where
-    below : (other : Fault) → word_of other ≡ None → rank_of other < 6 → HasFault line other → ⊥
-    below (UnknownWord n) is less there = none-some n (sym is)
-    below (MissingValue n) is less there = none-some n (sym is)
-    below (BadNumber n) is less there = none-some n (sym is)
-    below (BadEnding n) is less there = none-some n (sym is)
-    below (SameName n) is less there = none-some n (sym is)
-    below NoGraph is less there = graph there
-    below NoOutput is less there = absurd (omega arith)
-    below rest is less there = absurd there
-
-pub is_faultless : (line : List Said) → AreClean line → (Lacks line (Value Graph) → ⊥) → (Lacks line File → ⊥) → IsFaultless line
-is_faultless line clean graph file (UnknownWord n) there = clean n (UnknownWord n) refl there
-is_faultless line clean graph file (MissingValue n) there = clean n (MissingValue n) refl there
-is_faultless line clean graph file (BadNumber n) there = clean n (BadNumber n) refl there
-is_faultless line clean graph file (BadEnding n) there = clean n (BadEnding n) refl there
-is_faultless line clean graph file (SameName n) there = clean n (SameName n) refl there
-is_faultless line clean graph file NoGraph there = graph there
-is_faultless line clean graph file NoOutput there = file there
-is_faultless line clean graph file other there = there
 
 -- ---- results
 
@@ -270,13 +215,3 @@ fault_passed line e (Ok x) passed found fault is = absurd passed.1
 fault_passed line e (Err (error.Fault f)) passed found fault is =
     same_fault line f fault (subst (λ (d : Failure Fault). IfFault {X = Unit {0}} (Err d) (IsFirstFault line)) (sym passed.1) found) is
 fault_passed line e (Err error.NoMemory) passed found fault is = tt
-
--- ---- the last word of a role
-
-pub none_last : (line : List Said) (role : Role) (last : Option ℕ) (r : Bool) → is_some last ≡ not r → r ≡ true → IsLastOf line role last → Lacks line role
-none_last line role None r e is lacks = lacks
-none_last line role (Some at) r e is last = absurd (false≢true (sym (e ∙ ap not is)))
-
-pub some_last : (line : List Said) (role : Role) (last : Option ℕ) (r : Bool) → is_some last ≡ not r → r ≡ false → IsLastOf line role last → Lacks line role → ⊥
-some_last line role None r e is lacks all = false≢true (e ∙ ap not is)
-some_last line role (Some at) r e is last all = all last.0 (at, last.1.here)

@@ -1,6 +1,6 @@
 -- The command that words mean (the ffmpeg documentation's options `-i`, `-filter_complex`, `-map` and `-y`; the others, the
 -- endings, and the order of faults are this project's own).
-use Rattle.std.specs.Prelude.{◌≡◌, ◌↔◌, ◌⊎◌, ℕ, Bool, true, false, List, [], ◌∷◌, ◌++◌, Option, Some, None, filter, IsTrue}
+use Rattle.std.specs.Prelude.{◌≡◌, ◌↔◌, ◌⊎◌, ℕ, List, [], ◌∷◌, ◌++◌, Option, Some, None, filter, IsTrue}
 use Rattle.std.specs.List.{AllZip}
 use Rattle.av_words.specs.declared.command_words.Command.{Command}
 use Rattle.av_words.specs.declared.command_words.InputWord.{InputWord}
@@ -13,20 +13,11 @@ use Rattle.av_words.specs.declared.word_roles.Valued.TheVariants.{Workers, Slice
 use Rattle.av_faults.specs.declared.fault.Fault.{Fault}
 use Rattle.av_words.specs.WordRoles.{Said, said}
 use Rattle.av_words.specs.WordValues.{media_of, ending_of, IsLabelled, IsCount, SaysOrder, SaysMade}
-use Rattle.av_words.specs.WordFaults.{Has, Lacks, IsLast, map_after, HasFault, IsFirstFault}
+use Rattle.av_words.specs.WordFaults.{Has, Lacks, IsLast, is_input, map_after, HasFault, IsFirstFault}
 
 -- ---- inputs
 
--- the word is a value that names an input
-abbrev pub names_input : Role → Bool
-names_input (Value Input) = true
-names_input (Value Generator) = true
-names_input other = false
-
-abbrev pub is_input : Said → Bool
-is_input item = names_input item.role
-
--- what it names: a file and what that gives, or a made input
+-- what a value names: a file and what that gives, or a made input
 abbrev pub SaysInputAs : Role → List ℕ → InputWord → Type 0
 SaysInputAs (Value Input) word (input.File name media) = (name ≡ word) × (media_of word ≡ Some media)
 SaysInputAs (Value Generator) word made = SaysMade word made
@@ -89,7 +80,7 @@ pub record SaysCommand (line : List Said) (command : Command) : Type 0 where
 abbrev pub IsCommand : List (List ℕ) → Command → Type 0
 IsCommand words command = SaysCommand (said words) command
 
--- its fault: the one at the first word that has one, and of those at one word the one of the lowest rank
+-- its fault: the one at the first word that has one, or else one of the whole line; at one place the one of the lowest rank
 abbrev pub IsWordFault : List (List ℕ) → Fault → Type 0
 IsWordFault words fault = IsFirstFault (said words) fault
 
@@ -98,3 +89,4 @@ pub record WordsSayOneThing : Type 0 where
   pub one_command : (words : List (List ℕ)) (a b : Command) → IsCommand words a → IsCommand words b → a ≡ b
   pub one_fault : (words : List (List ℕ)) (f g : Fault) → IsWordFault words f → IsWordFault words g → f ≡ g
   pub not_both : (words : List (List ℕ)) (command : Command) (fault : Fault) → IsCommand words command → IsWordFault words fault → ⊥
+  pub one_of_both : (words : List (List ℕ)) → ((command : Command) × IsCommand words command) ⊎ ((fault : Fault) × IsWordFault words fault)

@@ -1,3 +1,4 @@
+pub mod Bounds
 pub mod WordRoles
 pub mod WordValues
 pub mod WordFaults

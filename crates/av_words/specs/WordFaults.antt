@@ -1,5 +1,5 @@
 -- The faults of a command line, and which of them comes first (this project's own).
-use Rattle.std.specs.Prelude.{◌≡◌, ◌<◌, ◌+◌, ◌⊎◌, ℕ, List, [], ◌∷◌, Option, Some, None, take, drop, IsSome}
+use Rattle.std.specs.Prelude.{◌≡◌, ◌<◌, ◌+◌, ◌⊎◌, ℕ, Bool, true, false, List, [], ◌∷◌, Option, Some, None, length, filter, take, drop, IsSome}
 use Rattle.std.specs.List.{slice_get}
 use Rattle.av_words.specs.declared.command_words.InputWord.{InputWord}
 use Rattle.av_words.specs.declared.word_roles.Role.{Role}
@@ -7,7 +7,9 @@ use Rattle.av_words.specs.declared.word_roles.Role.TheVariants.{Names, Value, Fi
 use Rattle.av_words.specs.declared.word_roles.Valued.{Valued}
 use Rattle.av_words.specs.declared.word_roles.Valued.TheVariants.{Workers, Slices, Order, Input, Generator, Graph, Map}
 use Rattle.av_faults.specs.declared.fault.Fault.{Fault}
-use Rattle.av_faults.specs.declared.fault.Fault.TheVariants.{UnknownWord, MissingValue, BadNumber, BadEnding, SameName, NoGraph, NoOutput}
+use Rattle.av_faults.specs.declared.fault.Fault.TheVariants.{UnknownWord, MissingValue, BadNumber, BadEnding, SameName, NoGraph, NoOutput, Limit}
+use Rattle.av_faults.specs.declared.fault.LimitKind.TheVariants.{Text, Inputs, Outputs}
+use Rattle.av_words.specs.Bounds.{most_inputs, most_outputs, greatest_text}
 use Rattle.av_words.specs.WordRoles.{Said}
 use Rattle.av_words.specs.WordValues.{media_of, ending_of, IsLabelled, IsCount, SaysOrder, SaysMade}
 
@@ -29,6 +31,25 @@ Lacks line role = (word : List ℕ) → ¬ Has line role word
 pub record IsLast (line : List Said) (role : Role) (at : ℕ) (word : List ℕ) : Type 0 where
   pub here : IsAt line at role word
   pub later : (n : ℕ) (other : List ℕ) → at < n → ¬ IsAt line n role other
+
+-- ---- inputs and outputs
+
+-- the word is a value that names an input
+abbrev pub names_input : Role → Bool
+names_input (Value Input) = true
+names_input (Value Generator) = true
+names_input other = false
+
+abbrev pub is_input : Said → Bool
+is_input item = names_input item.role
+
+-- the word names an output file
+abbrev pub names_output : Role → Bool
+names_output File = true
+names_output other = false
+
+abbrev pub is_output : Said → Bool
+is_output item = names_output item.role
 
 -- ---- labels for output files
 
@@ -92,7 +113,7 @@ pub record HoldsAt (Fails : List Said → Role → List ℕ → List Said → Ty
   pub here : IsAt line n role word
   pub fails : Fails (take n line) role word (drop (n + 1) line)
 
--- the line has this fault; the faults of texts, limits and hosts aren't faults of words
+-- the line has this fault; the faults of texts, graphs and hosts aren't faults of words
 abbrev pub HasFault : List Said → Fault → Type 0
 HasFault line (UnknownWord n) = HoldsAt (λ before role word after. IsUnknown before role word) line n
 HasFault line (MissingValue n) = HoldsAt (λ before role word after. LacksValue role after) line n
@@ -101,6 +122,9 @@ HasFault line (BadEnding n) = HoldsAt (λ before role word after. HasBadEnding r
 HasFault line (SameName n) = HoldsAt (λ before role word after. IsSameName before role word) line n
 HasFault line NoGraph = Lacks line (Value Graph)
 HasFault line NoOutput = Lacks line File
+HasFault line (Limit Inputs which allowed) = (which ≡ 0) × (allowed ≡ most_inputs) × (most_inputs < length (filter is_input line))
+HasFault line (Limit Outputs which allowed) = (which ≡ 0) × (allowed ≡ most_outputs) × (most_outputs < length (filter is_output line))
+HasFault line (Limit Text which allowed) = (which ≡ 0) × (allowed ≡ greatest_text) × ((at : ℕ) × (text : List ℕ) × IsLast line (Value Graph) at text × (greatest_text < length text))
 HasFault line other = ⊥
 
 -- ---- which comes first
@@ -123,7 +147,10 @@ rank_of (BadEnding n) = 3
 rank_of (SameName n) = 4
 rank_of NoGraph = 5
 rank_of NoOutput = 6
-rank_of other = 7
+rank_of (Limit Inputs which allowed) = 7
+rank_of (Limit Outputs which allowed) = 8
+rank_of (Limit Text which allowed) = 9
+rank_of other = 10
 
 -- the one place comes before the other
 abbrev pub IsBefore : Option ℕ → Option ℕ → Type 0

@@ -5,8 +5,8 @@ ghost use Rattle.av_words.specs.declared.word_roles.Role.TheVariants.{Value};
 ghost use Rattle.av_words.specs.declared.word_roles.Valued.TheVariants.{Graph, Order};
 ghost use Rattle.av_words.specs.WordRoles.{said_of, line_of};
 ghost use Rattle.av_words.specs.WordValues.{IsCount, SaysOrder};
-ghost use Rattle.av_words.specs.WordFaults.{Has, IsLast, IsBadNumber, HasBadEnding, map_after};
-ghost use Rattle.av_words.specs.CommandWords.{IsFaultless, is_input, SaysInput, IsLabelOf, output_at, outputs_after, SaysOutput, IsSet, SaysCommand};
+ghost use Rattle.av_words.specs.WordFaults.{is_input, Has, IsLast, IsBadNumber, HasBadEnding, map_after};
+ghost use Rattle.av_words.specs.CommandWords.{IsFaultless, SaysInput, IsLabelOf, output_at, outputs_after, SaysOutput, IsSet, SaysCommand};
 ghost use Rattle.av_words.specs.WordChecks.{HasLabel, plain};
 
 use crate::command_words::{Command, InputWord, OutputWord};

@@ -6,11 +6,11 @@ ghost use Rattle.av_words.specs.CommandWords.{IsCommand, IsWordFault};
 ghost use Rattle.av_base.specs.Failures.{IfFault, Gives, Refuses};
 
 use crate::command_parts::command_of;
+use crate::line_checks::text_of;
 use crate::word_checks::check_items;
 use crate::word_faults::WordError;
-use crate::word_roles::{Role, Valued, last_of, last_value, read_items};
+use crate::word_roles::read_items;
 use av_base::{List, Media, Text};
-use av_faults::Fault;
 use graph_plan::OutputFile;
 use std::alloc::Global;
 
@@ -69,7 +69,8 @@ pub struct Command {
 ///
 /// # Errors
 /// The fault at the first word that has one, and of those at one word the one of the lowest rank: `UnknownWord`, `MissingValue`,
-/// `BadNumber`, `BadEnding`, `SameName`. After all these `NoGraph`, then `NoOutput`. Or out of memory.
+/// `BadNumber`, `BadEnding`, `SameName`. After all these `NoGraph`, `NoOutput`, and a `Limit` of the inputs, of the output files
+/// and of the text, in this order. Or out of memory.
 pub fn read_words(alloc: Global, words: &[String]) -> Result<Command, WordError>
     ensures command { IfOk result (IsCommand (map string_bytes words.now)) }
     // Words that mean a command have no fault, and mean no other.
@@ -81,12 +82,7 @@ pub fn read_words(alloc: Global, words: &[String]) -> Result<Command, WordError>
     let items = read_items(alloc, words)?;
     let items = items.as_slice();
     check_items(alloc, items)?;
-    let Some(text) = last_value(items, Valued::Graph) else {
-        return Err(WordError::Fault(Fault::NoGraph));
-    };
-    if last_of(items, Role::File).is_none() {
-        return Err(WordError::Fault(Fault::NoOutput));
-    }
+    let text = text_of(items)?;
     let command = command_of(alloc, items, text)?;
     Ok(command)
 }

@@ -4,6 +4,7 @@
 mod command_parts;
 mod command_words;
 pub mod law;
+mod line_checks;
 mod word_checks;
 mod word_faults;
 mod word_roles;

@@ -1,56 +1,123 @@
--- Words ask for one thing, and a file has one result for it, or one of both has one fault.
-use Rattle.std.proofs.Common.{◌≡◌, ℕ, List, sym, ◌∙◌, ap, subst, inl, inr}
+-- Words come to one thing, and a file comes to one thing for what they ask. Out of memory is none of these.
+use Rattle.std.proofs.Common.{◌≡◌, ◌+◌, ℕ, List, [], ◌∷◌, Result, Err, refl, sym, subst, inl, inr}
+use Rattle.std.specs.List.{AllZip}
 use Rattle.av_base.specs.declared.shapes.Shape.{Shape}
-use Rattle.av_frame.specs.Frames.{FrameValue}
+use Rattle.av_filter.specs.Outcomes.{AfterStep}
+use Rattle.av_frame.specs.declared.refusals.ConfigError.{ConfigError}
+use Rattle.av_frame.specs.declared.refusals.ConfigError.TheVariants as config
+use Rattle.av_frame.specs.declared.refusals.OptionError.{OptionError}
+use Rattle.av_frame.specs.declared.refusals.OptionError.TheVariants as option
+use Rattle.graph_text.specs.Graphs.{IsGraph}
 use Rattle.graph_text.specs.declared.graph.FilterCall.{FilterCall}
-use Rattle.node_core.specs.Shaping.{ReadyValue}
-use Rattle.avgraph.specs.Chains.{AreReady, through}
-use Rattle.avgraph.specs.Answers.{Answers, AnswersAreOne}
-use Rattle.y4m_io.specs.Files.{whole_text}
-use Rattle.avgraph.specs.Requests.{SaysFilters, RefusesText, Request, IsRequest, IsRefused, RequestsAreOne}
-use Rattle.av_faults.specs.declared.fault.Fault.{Fault}
-use Rattle.avgraph.proofs.FileLemmas.{chain_one, answer_or_fault, one_file_fault}
-use Rattle.y4m_io.proofs.LawLemmas.{one_reading}
-use Rattle.avgraph.proofs.RequestLemmas.{one_chain, says_or_refuses, one_refusal, same_words, no_words}
+use Rattle.graph_plan.specs.declared.plan.DraftPlan.{DraftPlan}
+use Rattle.graph_plan.specs.declared.plan.Plan.{Plan}
+use Rattle.node_core.specs.FilterLaws.{frame_filter_laws}
+use Rattle.node_core.specs.declared.kind.Kind.{Kind}
+use Rattle.node_core.specs.Kinds.{IsKind, IsKindFault}
+use Rattle.node_core.specs.Shaping.{IsConfigFault}
+use Rattle.node_core.proofs.LawLemmas.{one_meaning}
+use Rattle.av_words.specs.declared.command_words.Command.{Command}
+use Rattle.av_faults.specs.declared.fault.Stop.{Stop}
+use Rattle.av_faults.specs.declared.fault.Stop.TheVariants as stop
+use Rattle.avgraph.specs.Answers.{Answer, IsUnready, ShapeGives, FramesGive, FileGives}
+use Rattle.avgraph.specs.Chains.{Step, AreReady}
+use Rattle.avgraph.specs.Headline.{CommandsHaveOneAnswer}
+use Rattle.avgraph.specs.Requests.{Request, HasTextFault, IsRefusedCall, refuse, AsksPlan, AsksDraft, AsksKinds, AsksCalls, AsksCommand, Asks}
+use Rattle.avgraph.specs.Stops.{option_stop, config_stop}
+use Rattle.avgraph.proofs.FileLemmas.{file_gives}
+use Rattle.avgraph.proofs.RequestLemmas.{asks_one, request_known}
 
--- ---- results
+-- ---- files
 
-same_text : (s t : Shape) (rs qs : List ReadyValue) (xs ys : List FrameValue) → s ≡ t → rs ≡ qs → xs ≡ ys → whole_text s (through rs xs) ≡ whole_text t (through qs ys)
-same_text s t rs qs xs ys a b c =
-    ap (λ (u : Shape). whole_text u (through rs xs)) a ∙ (ap (λ (us : List ReadyValue). whole_text t (through us xs)) b ∙ ap (λ (zs : List FrameValue). whole_text t (through qs zs)) c)
+config_memory : (n : ℕ) (e : ConfigError) → stop.NoMemory ≡ config_stop n e → e ≡ config.NoMemory
+config_memory n (config.SizeMismatch a b) h = absurd cc
+config_memory n (config.BadGeometry found allowed) h = absurd cc
+config_memory n config.TimeBaseRange h = absurd cc
+config_memory n (config.TooLarge found allowed) h = absurd cc
+config_memory n (config.NoValue k) h = absurd cc
+config_memory n config.NoMemory h = refl
 
-one_answer : (limit : ℕ) (calls : List FilterCall) (bytes out other : List ℕ) → Answers limit calls bytes out → Answers limit calls bytes other → out ≡ other
-one_answer limit calls bytes out other a b =
-    let file = one_reading bytes a.shape b.shape a.frames b.frames a.file b.file in
-    let ready : AreReady calls a.shape b.readies b.end = subst (λ (s : Shape). AreReady calls s b.readies b.end) file.0 b.ready in
-    let chain = chain_one calls a.shape a.end b.end a.readies b.readies a.ready ready in
-    a.out_is ∙ (same_text a.end b.end a.readies b.readies a.frames b.frames chain.1 chain.0 (sym file.1) ∙ sym b.out_is)
+unready_memory : (path : List Step) (s : Shape) → ¬ IsUnready path s stop.NoMemory
+unready_memory [] s h = h
+unready_memory (c ∷ cs) s (inl h) =
+    let refused = h.1 in
+    frame_filter_laws.making.no_memory refused.kind.options s (subst (IsConfigFault refused.kind s) (config_memory c.number h.0 h.2) refused.fault)
+unready_memory (c ∷ cs) s (inr h) = unready_memory cs h.1 h.4
 
-pub answers_are_one : AnswersAreOne
-answers_are_one = record {
-  one = one_answer;
-  not_both = λ limit calls bytes out fault a. answer_or_fault a;
-  one_fault = λ limit calls bytes f g p q. one_file_fault p q;
+answer_stop : {a b : Stop} → ◌≡◌ {A = Result Answer Stop} (Err a) (Err b) → a ≡ b
+answer_stop e = cc
+
+shape_memory : (limit : ℕ) (path : List Step) (bytes : List ℕ) (s : Shape) → ¬ ShapeGives limit path bytes s (Err stop.NoMemory)
+shape_memory limit path bytes s (inl h) = absurd (let e = h.1 in cc)
+shape_memory limit path bytes s (inr h) = after h.1
+  where
+    after : ¬ AfterStep (IsUnready path s) Err (λ readied. AreReady path s readied.readies readied.end) (FramesGive limit bytes s) (Err stop.NoMemory)
+    after (inl k) = unready_memory path s (subst (IsUnready path s) (sym (answer_stop k.2)) k.1)
+    after (inr k) = frames k.2
+      where
+        frames : ¬ FramesGive limit bytes s k.0 (Err stop.NoMemory)
+        frames (inl f) = absurd (let e = f.1 in cc)
+        frames (inr f) = absurd (let e = f.2 in cc)
+
+file_memory : (limit : ℕ) (path : List Step) (bytes : List ℕ) → ¬ FileGives limit path bytes (Err stop.NoMemory)
+file_memory limit path bytes (inl h) = absurd (let e = h.1 in cc)
+file_memory limit path bytes (inr h) = shape_memory limit path bytes h.0 h.2
+
+-- ---- words
+
+option_memory : (n : ℕ) (e : OptionError) → stop.NoMemory ≡ option_stop n e → e ≡ option.NoMemory
+option_memory n option.UnknownFilter h = absurd cc
+option_memory n (option.UnknownOption k) h = absurd cc
+option_memory n (option.TooManyValues k) h = absurd cc
+option_memory n (option.BadValue k) h = absurd cc
+option_memory n option.MissingOption h = absurd cc
+option_memory n option.NotYet h = absurd cc
+option_memory n option.NoMemory h = refl
+
+call_memory : (n : ℕ) (calls : List FilterCall) → ¬ IsRefusedCall n calls stop.NoMemory
+call_memory n [] h = h
+call_memory n (c ∷ cs) (inl h) = one_meaning.no_memory c (subst (IsKindFault c) (option_memory n h.0 h.2) h.1)
+call_memory n (c ∷ cs) (inr h) = call_memory (n + 1) cs h.2
+
+asked_stop : {a b : Stop} → ◌≡◌ {A = Result Request Stop} (Err a) (Err b) → a ≡ b
+asked_stop e = cc
+
+plan_memory : (command : Command) (calls : List FilterCall) (plan : Plan) → ¬ AsksPlan command calls plan (Err stop.NoMemory)
+plan_memory command calls plan (inl h) = absurd (let e = h.1 in cc)
+plan_memory command calls plan (inr h) = absurd (let e = h.2.2 in cc)
+
+draft_memory : (command : Command) (calls : List FilterCall) (draft : DraftPlan) → ¬ AsksDraft command calls draft (Err stop.NoMemory)
+draft_memory command calls draft (inl h) = absurd (let e = h.2 in cc)
+draft_memory command calls draft (inr h) = plan_memory command calls h.0 h.2
+
+kinds_memory : (command : Command) (calls : List FilterCall) (kinds : List Kind) → ¬ AsksKinds command calls kinds (Err stop.NoMemory)
+kinds_memory command calls kinds (inl h) = absurd (let e = h.2 in cc)
+kinds_memory command calls kinds (inr h) = draft_memory command calls h.0 h.2
+
+calls_memory : (command : Command) (calls : List FilterCall) → ¬ AsksCalls command calls (Err stop.NoMemory)
+calls_memory command calls (inl h) = absurd (let e = h.1 in cc)
+calls_memory command calls (inr h) = after h.1
+  where
+    after : ¬ AfterStep (IsRefusedCall 0 calls) Err (AllZip IsKind calls) (AsksKinds command calls) (Err stop.NoMemory)
+    after (inl k) = call_memory 0 calls (subst (IsRefusedCall 0 calls) (sym (asked_stop k.2)) k.1)
+    after (inr k) = kinds_memory command calls k.0 k.2
+
+command_memory : (command : Command) → ¬ AsksCommand command (Err stop.NoMemory)
+command_memory command (inl h) = absurd (let e = h.1 in cc)
+command_memory command (inr h) = after h.1
+  where
+    after : ¬ AfterStep (HasTextFault command.text) refuse (IsGraph command.text) (AsksCalls command) (Err stop.NoMemory)
+    after (inl k) = absurd (let e = k.2 in cc)
+    after (inr k) = calls_memory command k.0 k.2
+
+words_memory : (words : List (List ℕ)) → ¬ Asks words (Err stop.NoMemory)
+words_memory words (inl h) = absurd (let e = h.2 in cc)
+words_memory words (inr h) = command_memory h.0 h.2
+
+pub commands_have_one_answer : CommandsHaveOneAnswer
+commands_have_one_answer = record {
+  words = asks_one;
+  words_memory = words_memory;
+  files = λ words request limit bytes is. file_gives limit request.path bytes (request_known words request is);
+  files_memory = file_memory;
 }
-
--- ---- requests
-
-one_request : (words : List (List ℕ)) (r s : Request) → IsRequest words r → IsRequest words s → r ≡ s
-one_request words r s p q =
-    let same = same_words words p.words_are q.words_are in
-    let calls = one_chain (subst (λ (t : List ℕ). SaysFilters t r.calls) same.1 p.says) q.says in
-    ap (λ (i : List ℕ). record r { input = i }) same.0
-    ∙ (ap (λ (cs : List FilterCall). record s { calls = cs; output = r.output }) calls ∙ ap (λ (o : List ℕ). record s { output = o }) same.2)
-
-asked_or_refused : (words : List (List ℕ)) (r : Request) (fault : Fault) → IsRequest words r → ¬ IsRefused words fault
-asked_or_refused words r fault p (inl h) = no_words words h.0 p.words_are
-asked_or_refused words r fault p (inr h) = says_or_refuses p.says (subst (λ (t : List ℕ). RefusesText t fault) (same_words words h.3 p.words_are).1 h.4)
-
-one_refused : (words : List (List ℕ)) (f g : Fault) → IsRefused words f → IsRefused words g → f ≡ g
-one_refused words f g (inl p) (inl q) = p.1 ∙ sym q.1
-one_refused words f g (inl p) (inr q) = absurd (no_words words p.0 q.3)
-one_refused words f g (inr p) (inl q) = absurd (no_words words q.0 p.3)
-one_refused words f g (inr p) (inr q) = one_refusal p.4 (subst (λ (t : List ℕ). RefusesText t g) (same_words words q.3 p.3).1 q.4)
-
-pub requests_are_one : RequestsAreOne
-requests_are_one = record { one = one_request; not_both = asked_or_refused; one_fault = one_refused }

@@ -4,7 +4,7 @@ use Rattle.std.specs.Prelude.{◌==◌, if◌then◌else◌}
 use Rattle.std.proofs.Math.Seq.{drop-cons, take-suc}
 use Rattle.std.proofs.lemmas.Grind.{take-set_at}
 use Rattle.std.proofs.lemmas.Int.{ints}
-use Rattle.std.proofs.lemmas.List.{map-append, map-id, append-nil, take-append-drop, take_all, drop_all, drop-set-lt, length-drop}
+use Rattle.std.proofs.lemmas.List.{length-map, map-append, map-id, append-nil, take-append-drop, take_all, drop_all, drop-set-lt, length-drop}
 use Rattle.std.proofs.lemmas.Simd.{map-map}
 use Rattle.av_base.specs.declared.NoMemory.{NoMemory}
 use Rattle.av_base.specs.declared.shapes.Shape.{Shape}
@@ -18,8 +18,7 @@ use Rattle.av_frame.specs.declared.filter.Given.TheVariants as gives
 use Rattle.node_core.specs.Shaping.{ReadyValue, made_by, given}
 use Rattle.node_core.specs.Filters.{frame_filters}
 use Rattle.node_core.specs.FilterLaws.{frame_filter_laws}
-use Rattle.graph_text.specs.declared.graph.FilterCall.{FilterCall}
-use Rattle.avgraph.specs.Chains.{through, passed, AreReady, AreLinked, StartsFrom, TakesFrom, AllTake}
+use Rattle.avgraph.specs.Chains.{Step, through, passed, AreReady, AreLinked, StartsFrom, TakesFrom, AllTake}
 
 -- ---- lists of frames
 
@@ -32,6 +31,10 @@ through-map (r ∷ rs) xs = through-map rs (given r xs) ∙ map-map (passed rs) 
 pub through-push : (rs : List ReadyValue) (frames : List FrameValue) (x : FrameValue) → through rs (frames ++ x ∷ []) ≡ through rs frames ++ passed rs x ∷ []
 through-push rs frames x =
     through-map rs (frames ++ x ∷ []) ∙ (map-append (passed rs) frames (x ∷ []) ∙ ap (λ (z : List FrameValue). z ++ passed rs x ∷ []) (sym (through-map rs frames)))
+
+-- as many frames come out as go in
+pub through-length : (rs : List ReadyValue) (frames : List FrameValue) → length (through rs frames) ≡ length frames
+through-length rs frames = ap length (through-map rs frames) ∙ length-map frames (passed rs)
 
 -- no frames come out of none
 pub through-nil : (rs : List ReadyValue) → through rs [] ≡ []
@@ -264,10 +267,10 @@ written_back {V} pads rest accepts low high s t rs vs ws n e old new =
     let whole : take n (ws ++ drop (length ws) vs) ≡ ws = ap (λ (z : List V). take n (ws ++ z)) none ∙ (ap (take n) (append-nil ws) ∙ take_all n ws (omega arith)) in
     rw whole new
 
--- ---- chains of calls
+-- ---- paths
 
--- the filters of a chain of calls are configured for what comes to them
-pub ready_linked : (calls : List FilterCall) (s t : Shape) (rs : List ReadyValue) → AreReady calls s rs t → AreLinked s rs t
+-- the filters of a path are configured for what comes to them
+pub ready_linked : (path : List Step) (s t : Shape) (rs : List ReadyValue) → AreReady path s rs t → AreLinked s rs t
 ready_linked [] s t [] p = p
 ready_linked [] s t (r ∷ rs) p = absurd p
 ready_linked (c ∷ cs) s t [] p = absurd p

@@ -1,8 +1,12 @@
--- A file and the filters' calls have one result or one fault.
-use Rattle.std.proofs.Common.{◌≡◌, ◌+◌, ◌⊎◌, ℕ, List, [], ◌∷◌, Contains, zero, suc, Result, Ok, Err, refl, sym, ◌∙◌, ap, subst, arith, inl, inr}
+-- What a file comes to on a path of filters is one thing, always.
+use Rattle.std.proofs.Common.{◌≡◌, ◌⊎◌, ◌≤◌, ℕ, List, [], ◌∷◌, Result, Ok, Err, length, take, refl, sym, ◌∙◌, ap, subst, arith, inl, inr}
+use Rattle.std.proofs.lemmas.Bool.{cases_order}
 use Rattle.std.proofs.lemmas.List.{take_all}
 use Rattle.av_base.specs.declared.shapes.Shape.{Shape}
 use Rattle.av_base.specs.declared.formats.Format.{Format}
+use Rattle.av_base.specs.Shapes.{IsPictureShape}
+use Rattle.av_filter.specs.Outcomes.{IsOne, HasOne, AfterStep, after_value, after_check, after_step, alike_one, ends_one}
+use Rattle.av_frame.specs.Frames.{FrameValue}
 use Rattle.av_frame.specs.declared.refusals.ConfigError.{ConfigError}
 use Rattle.graph_text.specs.declared.graph.FilterCall.{FilterCall}
 use Rattle.node_core.specs.declared.kind.Kind.{Kind}
@@ -11,15 +15,18 @@ use Rattle.node_core.specs.Filters.{frame_filters}
 use Rattle.node_core.specs.FilterLaws.{frame_filter_laws}
 use Rattle.node_core.specs.Kinds.{IsKind}
 use Rattle.node_core.proofs.LawLemmas.{one_meaning, one_outcome}
-use Rattle.avgraph.specs.Chains.{IsReadied, AreReady}
+use Rattle.y4m_io.specs.Files.{IsFile}
 use Rattle.y4m_io.specs.FrameTexts.{frames_text}
-use Rattle.avgraph.specs.Stops.{config_stop}
-use Rattle.avgraph.specs.Answers.{Answers, AreTaking, IsRefused, IsUnready, RefusesShape, NoFormat, Unready, HasHead, IsFileFault, NoHead, BadShape, Damaged}
-use Rattle.av_faults.specs.declared.fault.Fault.{Fault}
-use Rattle.av_faults.specs.declared.fault.Stop.{Stop}
-use Rattle.av_faults.specs.declared.fault.Stop.TheVariants as stop
+use Rattle.y4m_io.specs.HeaderTexts.{BeginsHeader}
 use Rattle.y4m_io.proofs.LineLemmas.{header_unique}
-use Rattle.avgraph.proofs.StopLemmas.{fault_is}
+use Rattle.y4m_io.proofs.HeaderLemmas.{header_readable}
+use Rattle.y4m_io.proofs.LawLemmas.{one_reading}
+use Rattle.y4m_io.proofs.DecidedLemmas.{files_are_decided}
+use Rattle.av_faults.specs.declared.fault.Fault.TheVariants.{NotYet, NoCommonFormat}
+use Rattle.av_faults.specs.declared.fault.Stop.{Stop}
+use Rattle.avgraph.specs.Chains.{Step, IsReadied, AreReady}
+use Rattle.avgraph.specs.Stops.{config_stop}
+use Rattle.avgraph.specs.Answers.{Readied, answer_of, TakesFormat, AreTaking, IsRefused, IsUnready, HasHead, HasFrames, reject, FramesGive, ShapeGives, FileGives}
 
 -- ---- one filter
 
@@ -60,6 +67,17 @@ module _ (call : FilterCall) (s : Shape) where
       let outcome = one_outcome call k.kind s k.is_kind k.picture k.takes in
       error_is (outcome.one (Err e) (Err f) (follows p.kind k.kind (Err e) p.is_kind k.is_kind p.fault) k.fault)
 
+  -- a filter that takes pictures of the shape is ready for them, or rejected
+  ready_or_refused : IsPictureShape s → (kind : Kind) → IsKind call kind → Takes kind s.format → ((r : ReadyValue) × IsReadied call s r) ⊎ ((e : ConfigError) × IsRefused call s e)
+  ready_or_refused picture kind is takes = let one = one_outcome call kind s is picture takes in by_outcome one.some.0 one.some.1
+    where
+      by_outcome : (r : Result frame_filters.Settings ConfigError) → frame_filters.making.settles kind.options s r → ((r : ReadyValue) × IsReadied call s r) ⊎ ((e : ConfigError) × IsRefused call s e)
+      by_outcome (Ok t) h = inl (
+        record { settings = t; ins = s ∷ []; outs = frame_filters.making.shape t s ∷ [] },
+        record { kind = kind; is_kind = is; picture = picture; takes = takes; is_ready = record { settles = h; ins = refl; outs = refl } },
+      )
+      by_outcome (Err e) h = inr (e, record { kind = kind; is_kind = is; picture = picture; takes = takes; fault = h })
+
 -- one list, of one shape each
 same_shape : {a b : Shape} → ◌≡◌ {A = List Shape} (a ∷ []) (b ∷ []) → a ≡ b
 same_shape e = cc
@@ -67,109 +85,153 @@ same_shape e = cc
 outs_one : {r q : ReadyValue} {t u : Shape} → r ≡ q → r.outs ≡ t ∷ [] → q.outs ≡ u ∷ [] → t ≡ u
 outs_one e p q = same_shape (sym p ∙ (ap (λ (x : ReadyValue). x.outs) e ∙ q))
 
--- ---- chains
+-- what a filter gives are pictures of its input's format
+readied_is : (call : FilterCall) (s : Shape) (r : ReadyValue) → IsReadied call s r → r.outs ≡ frame_filters.making.shape r.settings s ∷ []
+readied_is call s r p = p.is_ready.outs
 
-pub chain_one : (calls : List FilterCall) (s t u : Shape) (rs qs : List ReadyValue) → AreReady calls s rs t → AreReady calls s qs u → (rs ≡ qs) × (t ≡ u)
-chain_one [] s t u [] [] p q = (refl, p ∙ sym q)
-chain_one [] s t u [] (x ∷ xs) p q = absurd q
-chain_one [] s t u (r ∷ rs) qs p q = absurd p
-chain_one (c ∷ cs) s t u [] qs p q = absurd p
-chain_one (c ∷ cs) s t u (r ∷ rs) [] p q = absurd q
-chain_one (c ∷ cs) s t u (r ∷ rs) (x ∷ xs) p q =
-    let first = ready_one c s r x p.0 q.0 in
-    let middle = outs_one first p.1.1 q.1.1 in
-    let others = chain_one cs q.1.0 t u rs xs (subst (λ (m : Shape). AreReady cs m rs t) middle p.1.2) q.1.2 in
-    (ap (λ (y : ReadyValue). y ∷ rs) first ∙ ap (λ (ys : List ReadyValue). x ∷ ys) others.0, others.1)
-
-chain_or_unready : (n : ℕ) (calls : List FilterCall) (s t : Shape) (rs : List ReadyValue) (stops : Stop) → AreReady calls s rs t → IsUnready n calls s stops → ⊥
-chain_or_unready n [] s t rs stops p q = q
-chain_or_unready n (c ∷ cs) s t [] stops p q = p
-chain_or_unready n (c ∷ cs) s t (r ∷ rs) stops p (inl q) = ready_or_fault c s r q.0 p.0 q.1
-chain_or_unready n (c ∷ cs) s t (r ∷ rs) stops p (inr q) =
-    chain_or_unready (n + 1) cs q.1 t rs stops (subst (λ (m : Shape). AreReady cs m rs t) (outs_one (ready_one c s r q.0 p.0 q.2) p.1.1 q.3) p.1.2) q.4
-
-unready_one : (n : ℕ) (calls : List FilterCall) (s : Shape) (a b : Stop) → IsUnready n calls s a → IsUnready n calls s b → a ≡ b
-unready_one n [] s a b p q = absurd p
-unready_one n (c ∷ cs) s a b (inl p) (inl q) = p.2 ∙ (ap (config_stop n) (fault_one c s p.0 q.0 p.1 q.1) ∙ sym q.2)
-unready_one n (c ∷ cs) s a b (inl p) (inr q) = absurd (ready_or_fault c s q.0 p.0 q.2 p.1)
-unready_one n (c ∷ cs) s a b (inr p) (inl q) = absurd (ready_or_fault c s p.0 q.0 p.2 q.1)
-unready_one n (c ∷ cs) s a b (inr p) (inr q) =
-    unready_one (n + 1) cs q.1 a b (subst (λ (m : Shape). IsUnready (n + 1) cs m a) (outs_one (ready_one c s p.0 q.0 p.2 q.2) p.3 q.3) p.4) q.4
-
--- the first call or one after it
-pub contains_split : (c x : FilterCall) (cs : List FilterCall) → Contains (c ∷ cs) x → (c ≡ x) ⊎ Contains cs x
-contains_split c x cs (zero, within, is) = inl is
-contains_split c x cs (suc k, within, is) = inr (k, omega arith, is)
-
--- a filter's output has the format of its input
-pub readied_format : (call : FilterCall) (s u : Shape) (r : ReadyValue) → IsReadied call s r → r.outs ≡ u ∷ [] → u.format ≡ s.format
+readied_format : (call : FilterCall) (s u : Shape) (r : ReadyValue) → IsReadied call s r → r.outs ≡ u ∷ [] → u.format ≡ s.format
 readied_format call s u r p outs = ap (λ (x : Shape). x.format) (same_shape (sym outs ∙ p.is_ready.outs)) ∙ (frame_filter_laws.making.stream r.settings s).format
 
--- a chain that is ready takes the format
-pub chain_takes : (calls : List FilterCall) (s t : Shape) (rs : List ReadyValue) → AreReady calls s rs t → AreTaking calls s.format
-chain_takes [] s t rs p u = let c = u.is_call in let n = c.1 in omega arith
-chain_takes (c ∷ cs) s t [] p u = p
-chain_takes (c ∷ cs) s t (r ∷ rs) p u = by_place (chain_takes cs p.1.0 t rs p.1.2) (contains_split c u.call cs u.is_call)
+readied_picture : (call : FilterCall) (s u : Shape) (r : ReadyValue) → IsReadied call s r → r.outs ≡ u ∷ [] → IsPictureShape u
+readied_picture call s u r p outs =
+    let pictured = frame_filter_laws.making.pictured r.settings s (record { options = p.kind.options; picture = p.picture; takes = p.takes; settles = p.is_ready.settles }) in
+    subst IsPictureShape (same_shape (sym p.is_ready.outs ∙ outs)) (record { lawful = pictured.lawful; video = pictured.video })
+
+-- ---- paths
+
+path_one : (path : List Step) (s t u : Shape) (rs qs : List ReadyValue) → AreReady path s rs t → AreReady path s qs u → (rs ≡ qs) × (t ≡ u)
+path_one [] s t u [] [] p q = (refl, p ∙ sym q)
+path_one [] s t u [] (x ∷ xs) p q = absurd q
+path_one [] s t u (r ∷ rs) qs p q = absurd p
+path_one (c ∷ cs) s t u [] qs p q = absurd p
+path_one (c ∷ cs) s t u (r ∷ rs) [] p q = absurd q
+path_one (c ∷ cs) s t u (r ∷ rs) (x ∷ xs) p q =
+    let first = ready_one c.call s r x p.0 q.0 in
+    let middle = outs_one first p.1.1 q.1.1 in
+    let others = path_one cs q.1.0 t u rs xs (subst (λ (m : Shape). AreReady cs m rs t) middle p.1.2) q.1.2 in
+    (ap (λ (y : ReadyValue). y ∷ rs) first ∙ ap (λ (ys : List ReadyValue). x ∷ ys) others.0, others.1)
+
+readied_one : (path : List Step) (s : Shape) → IsOne (λ (r : Readied). AreReady path s r.readies r.end)
+readied_one path s a b p q =
+    let same = path_one path s a.end b.end a.readies b.readies p q in
+    ap (λ (rs : List ReadyValue). let u : Readied = record { readies = rs; end = a.end } in u) same.0 ∙ ap (λ (t : Shape). let u : Readied = record { readies = b.readies; end = t } in u) same.1
+
+path_or_unready : (path : List Step) (s t : Shape) (rs : List ReadyValue) (stops : Stop) → AreReady path s rs t → IsUnready path s stops → ⊥
+path_or_unready [] s t rs stops p q = q
+path_or_unready (c ∷ cs) s t [] stops p q = p
+path_or_unready (c ∷ cs) s t (r ∷ rs) stops p (inl q) = ready_or_fault c.call s r q.0 p.0 q.1
+path_or_unready (c ∷ cs) s t (r ∷ rs) stops p (inr q) =
+    path_or_unready cs q.1 t rs stops (subst (λ (m : Shape). AreReady cs m rs t) (outs_one (ready_one c.call s r q.0 p.0 q.2) p.1.1 q.3) p.1.2) q.4
+
+unready_one : (path : List Step) (s : Shape) → IsOne (IsUnready path s)
+unready_one [] s a b p q = absurd p
+unready_one (c ∷ cs) s a b (inl p) (inl q) = p.2 ∙ (ap (config_stop c.number) (fault_one c.call s p.0 q.0 p.1 q.1) ∙ sym q.2)
+unready_one (c ∷ cs) s a b (inl p) (inr q) = absurd (ready_or_fault c.call s q.0 p.0 q.2 p.1)
+unready_one (c ∷ cs) s a b (inr p) (inl q) = absurd (ready_or_fault c.call s p.0 q.0 p.2 q.1)
+unready_one (c ∷ cs) s a b (inr p) (inr q) =
+    unready_one cs q.1 a b (subst (λ (m : Shape). IsUnready cs m a) (outs_one (ready_one c.call s p.0 q.0 p.2 q.2) p.3 q.3) p.4) q.4
+
+-- filters that take the format of the shape are ready, or one of them is rejected
+ready_or_unready : (path : List Step) (s : Shape) → IsPictureShape s → AreTaking path s.format → ((r : Readied) × AreReady path s r.readies r.end) ⊎ ((stops : Stop) × IsUnready path s stops)
+ready_or_unready [] s picture taking = inl (record { readies = []; end = s }, refl)
+ready_or_unready (c ∷ cs) s picture taking = first (λ u more takes. ready_or_unready cs u more takes) (ready_or_refused c.call s picture taking.0.0 taking.0.1 taking.0.2)
   where
-    by_place : AreTaking cs p.1.0.format → (c ≡ u.call) ⊎ Contains cs u.call → ⊥
-    by_place others (inl e) =
-        u.untaken ((one_meaning.one c p.0.kind u.kind p.0.is_kind (subst (λ (x : FilterCall). IsKind x u.kind) (sym e) u.is_kind)).takes s.format p.0.takes)
-    by_place others (inr within) =
-        others (record {
-          call = u.call;
-          is_call = within;
-          kind = u.kind;
-          is_kind = u.is_kind;
-          untaken = subst (λ (f : Format). ¬ Takes u.kind f) (sym (readied_format c s p.1.0 r p.0 p.1.1)) u.untaken;
-        })
+    first : ((u : Shape) → IsPictureShape u → AreTaking cs u.format → ((r : Readied) × AreReady cs u r.readies r.end) ⊎ ((stops : Stop) × IsUnready cs u stops)) → ((r : ReadyValue) × IsReadied c.call s r) ⊎ ((e : ConfigError) × IsRefused c.call s e)
+        → ((r : Readied) × AreReady (c ∷ cs) s r.readies r.end) ⊎ ((stops : Stop) × IsUnready (c ∷ cs) s stops)
+    first others (inr h) = inr (config_stop c.number h.0, inl (h.0, h.1, refl))
+    first others (inl h) =
+        let u = frame_filters.making.shape h.0.settings s in
+        let outs = readied_is c.call s h.0 h.1 in
+        let format = readied_format c.call s u h.0 h.1 outs in
+        let picture = readied_picture c.call s u h.0 h.1 outs in
+        elim (others u picture (subst (AreTaking cs) (sym format) taking.1)) [
+          | inl more ↦ inl (record { readies = h.0 ∷ more.0.readies; end = more.0.end }, (h.1, (u, outs, more.1)))
+          | inr stops ↦ inr (stops.0, inr (h.0, u, h.1, outs, stops.1))
+        ]
 
--- ---- shapes
+-- filters that are ready take the format
+pub path_takes : (path : List Step) (s t : Shape) (rs : List ReadyValue) → AreReady path s rs t → AreTaking path s.format
+path_takes [] s t [] p = tt
+path_takes [] s t (r ∷ rs) p = absurd p
+path_takes (c ∷ cs) s t [] p = absurd p
+path_takes (c ∷ cs) s t (r ∷ rs) p =
+    ((p.0.kind, p.0.is_kind, p.0.takes), subst (AreTaking cs) (readied_format c.call s p.1.0 r p.0 p.1.1) (path_takes cs p.1.0 t rs p.1.2))
 
-pub chain_or_refused : (calls : List FilterCall) (s t : Shape) (rs : List ReadyValue) (f : Fault) → AreReady calls s rs t → RefusesShape calls s f → ⊥
-chain_or_refused calls s t rs f p (NoFormat u e) = chain_takes calls s t rs p u
-chain_or_refused calls s t rs f p (Unready taking u) = chain_or_unready 0 calls s t rs (stop.Fault f) p u
+-- ---- formats
 
-one_shape_fault : {calls : List FilterCall} {s : Shape} {f g : Fault} → RefusesShape calls s f → RefusesShape calls s g → f ≡ g
-one_shape_fault (NoFormat u e) (NoFormat v d) = e ∙ sym d
-one_shape_fault (NoFormat u e) (Unready taking v) = absurd (taking u)
-one_shape_fault (Unready taking u) (NoFormat v d) = absurd (taking v)
-one_shape_fault {calls} {s} {f} {g} (Unready taking u) (Unready also v) = fault_is (unready_one 0 calls s (stop.Fault f) (stop.Fault g) u v)
+-- each call of the path means a filter
+abbrev pub AreKnown : List Step → Type 0
+AreKnown [] = Unit {0}
+AreKnown (step ∷ steps) = ((kind : Kind) × IsKind step.call kind) × AreKnown steps
+
+takes_or_not : (step : Step) (f : Format) → (kind : Kind) × IsKind step.call kind → TakesFormat f step ⊎ ¬ TakesFormat f step
+takes_or_not step f known = elim (frame_filter_laws.making.decided known.0.options f) [
+  | inl takes ↦ inl (known.0, known.1, takes)
+  | inr none ↦ inr (λ h. none ((one_meaning.one step.call h.0 known.0 h.1 known.1).takes f h.2))
+]
+
+taking_or_not : (path : List Step) (f : Format) → AreKnown path → AreTaking path f ⊎ ¬ AreTaking path f
+taking_or_not [] f known = inl tt
+taking_or_not (step ∷ steps) f known = elim (takes_or_not step f known.0) [
+  | inr none ↦ inr (λ h. none h.0)
+  | inl takes ↦ elim (taking_or_not steps f known.1) [ inl others ↦ inl (takes, others) | inr none ↦ inr (λ h. none h.1) ]
+]
 
 -- ---- files
 
-head_one : (limit : ℕ) (bytes : List ℕ) (s t : Shape) → HasHead limit bytes s → HasHead limit bytes t → s ≡ t
+head_one : (limit : ℕ) (bytes : List ℕ) → IsOne (HasHead limit bytes)
 head_one limit bytes s t p q =
     let a = p.0 in
     let b = q.0 in
     let same = header_unique a.rest b.rest a.header b.header (sym a.text_is ∙ b.text_is) in
     sym p.1 ∙ (same.1 ∙ q.1)
 
-answers_head : {limit : ℕ} {calls : List FilterCall} {bytes out : List ℕ} (a : Answers limit calls bytes out) → HasHead limit bytes a.shape
-answers_head {limit} {calls} {bytes} a =
-    let file = a.file in
-    (record { shape = a.shape; line = file.line; rest = frames_text a.frames; header = file.header; text_is = take_all limit bytes a.within ∙ file.text }, refl)
+head_picture : (limit : ℕ) (bytes : List ℕ) (s : Shape) → HasHead limit bytes s → IsPictureShape s
+head_picture limit bytes s p = subst IsPictureShape p.1 (let r = header_readable p.0.header in record { lawful = r.lawful; video = r.video })
 
-pub answer_or_fault : {limit : ℕ} {calls : List FilterCall} {bytes out : List ℕ} {f : Fault} → Answers limit calls bytes out → IsFileFault limit calls bytes f → ⊥
-answer_or_fault a (NoHead none e) = none (answers_head a).0
-answer_or_fault {limit} {calls} {bytes} {out} {f} a (BadShape s head refused) =
-    chain_or_refused calls a.shape a.end a.readies f a.ready (subst (λ (x : Shape). RefusesShape calls x f) (head_one limit bytes s a.shape head (answers_head a)) refused)
-answer_or_fault {limit} {calls} {bytes} {out} a (Damaged s rs t head ready none e) = none out a
+head_or_not : (limit : ℕ) (bytes : List ℕ) → (¬ BeginsHeader (take limit bytes)) ⊎ ((s : Shape) × HasHead limit bytes s)
+head_or_not limit bytes = elim (files_are_decided.header (take limit bytes)) [ inl h ↦ inr (h.shape, (h, refl)) | inr none ↦ inl none ]
 
--- a shape that is rejected, and a chain that is ready for the same file
-refused_or_ready : (limit : ℕ) (calls : List FilterCall) (bytes : List ℕ) (s t u : Shape) (rs : List ReadyValue) (f : Fault) → HasHead limit bytes s → RefusesShape calls s f → HasHead limit bytes t → AreReady calls t rs u → ⊥
-refused_or_ready limit calls bytes s t u rs f head refused other ready =
-    chain_or_refused calls t u rs f ready (subst (λ (x : Shape). RefusesShape calls x f) (head_one limit bytes s t head other) refused)
+at_most : (m n : ℕ) → (m ≤ n) ⊎ ¬ (m ≤ n)
+at_most m n = elim (cases_order m n) [
+  | inl e ↦ inl (omega arith)
+  | inr apart ↦ elim apart [ inl less ↦ inl (omega arith) | inr more ↦ inr (λ h. absurd (omega arith)) ]
+]
 
-pub one_file_fault : {limit : ℕ} {calls : List FilterCall} {bytes : List ℕ} {f g : Fault} → IsFileFault limit calls bytes f → IsFileFault limit calls bytes g → f ≡ g
-one_file_fault (NoHead none e) (NoHead nor d) = e ∙ sym d
-one_file_fault (NoHead none e) (BadShape s head refused) = absurd (none head.0)
-one_file_fault (NoHead none e) (Damaged s rs t head ready nor d) = absurd (none head.0)
-one_file_fault (BadShape s head refused) (NoHead nor d) = absurd (nor head.0)
-one_file_fault {limit} {calls} {bytes} {f} {g} (BadShape s head refused) (BadShape t other also) =
-    one_shape_fault refused (subst (λ (x : Shape). RefusesShape calls x g) (head_one limit bytes t s other head) also)
-one_file_fault {limit} {calls} {bytes} {f} {g} (BadShape s head refused) (Damaged t rs u other ready nor d) =
-    absurd (refused_or_ready limit calls bytes s t u rs f head refused other ready)
-one_file_fault (Damaged s rs t head ready none e) (NoHead nor d) = absurd (nor head.0)
-one_file_fault {limit} {calls} {bytes} {f} {g} (Damaged s rs t head ready none e) (BadShape u other also) =
-    absurd (refused_or_ready limit calls bytes u s t rs g other also head ready)
-one_file_fault (Damaged s rs t head ready none e) (Damaged u qs v other also nor d) = e ∙ sym d
+frames_one : (limit : ℕ) (bytes : List ℕ) (s : Shape) → IsOne (HasFrames limit bytes s)
+frames_one limit bytes s a b p q = sym ((one_reading bytes s s a b p.0 q.0).1)
+
+-- a file whose header is of a shape is a file of that shape
+head_shape : (limit : ℕ) (bytes : List ℕ) (s t : Shape) (frames : List FrameValue) → HasHead limit bytes s → length bytes ≤ limit → IsFile bytes t frames → t ≡ s
+head_shape limit bytes s t frames p within is =
+    let head = p.0 in
+    let same = header_unique head.rest (frames_text frames) head.header is.header (sym head.text_is ∙ (take_all limit bytes within ∙ is.text)) in
+    sym same.1 ∙ p.1
+
+frames_or_not : (limit : ℕ) (bytes : List ℕ) (s : Shape) → HasHead limit bytes s → ((frames : List FrameValue) → ¬ HasFrames limit bytes s frames) ⊎ ((frames : List FrameValue) × HasFrames limit bytes s frames)
+frames_or_not limit bytes s head = elim (at_most (length bytes) limit) [
+  | inr long ↦ inl (λ frames h. long h.1)
+  | inl within ↦ elim (files_are_decided.file bytes) [
+    | inr none ↦ inl (λ frames h. none s frames h.0)
+    | inl is ↦ inr (is.1, (subst (λ (t : Shape). IsFile bytes t is.1) (head_shape limit bytes s is.0 is.1 head within is.2) is.2, within))
+  ]
+]
+
+-- ---- each step
+
+frames_give : (limit : ℕ) (bytes : List ℕ) (s : Shape) (readied : Readied) → HasHead limit bytes s → HasOne (FramesGive limit bytes s readied)
+frames_give limit bytes s readied head =
+    after_value ((frames : List FrameValue) → ¬ HasFrames limit bytes s frames) (reject NotYet) (HasFrames limit bytes s) (λ frames r. r ≡ Ok (answer_of readied frames))
+    (frames_or_not limit bytes s head) (frames_one limit bytes s) (λ frames has none. none frames has) (λ frames has. ends_one (Ok (answer_of readied frames)))
+
+shape_gives : (limit : ℕ) (path : List Step) (bytes : List ℕ) (s : Shape) → AreKnown path → HasHead limit bytes s → HasOne (ShapeGives limit path bytes s)
+shape_gives limit path bytes s known head =
+    after_check (AreTaking path s.format) (reject (NoCommonFormat 0)) (AfterStep (IsUnready path s) Err (λ readied. AreReady path s readied.readies readied.end) (FramesGive limit bytes s)) (taking_or_not path s.format known)
+    (λ taking. after_step (IsUnready path s) Err (λ readied. AreReady path s readied.readies readied.end) (FramesGive limit bytes s)
+    (ready_or_unready path s (head_picture limit bytes s head) taking) (unready_one path s) (λ readied stops ready unready. path_or_unready path s readied.end readied.readies stops ready unready)
+    (alike_one (λ (readied : Readied). AreReady path s readied.readies readied.end) (FramesGive limit bytes s) (readied_one path s)) (λ readied ready. frames_give limit bytes s readied head))
+
+pub file_gives : (limit : ℕ) (path : List Step) (bytes : List ℕ) → AreKnown path → HasOne (FileGives limit path bytes)
+file_gives limit path bytes known =
+    after_value (¬ BeginsHeader (take limit bytes)) (reject NotYet) (HasHead limit bytes) (ShapeGives limit path bytes)
+    (head_or_not limit bytes) (head_one limit bytes) (λ s head none. none head.0) (λ s head. shape_gives limit path bytes s known head)

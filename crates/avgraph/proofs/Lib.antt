@@ -6,5 +6,4 @@ mod RunLemmas
 mod CommandLemmas
 mod HeadlineLemmas
 mod RequestLemmas
-mod ObeyLemmas
 mod AnswerLaws

@@ -1,24 +1,185 @@
--- Words ask for at most one thing, or have at most one fault.
-use Rattle.std.proofs.Common.{◌≡◌, ◌<◌, ◌≤◌, ◌+◌, ◌⊎◌, ℕ, List, [], ◌∷◌, Option, Some, None, Result, Ok, Err, IfOk, Vec, Global, length, get_or, take, ◌++◌, zero, suc, sym, ◌∙◌, ap, subst, arith, inl, inr}
-use Rattle.std.specs.List.{AllZip, AllByRecursion}
-use Rattle.std.proofs.lemmas.List.{take_more}
+-- Words ask for exactly one thing, or are stopped by exactly one.
+use Rattle.std.proofs.Common.{◌≡◌, ◌<◌, ◌≤◌, ◌+◌, ◌-◌, ◌⊎◌, ◌++◌, ℕ, List, [], ◌∷◌, filter, Some, Result, Ok, Err, length, map, get_or, take, zero, suc, refl, sym, ◌∙◌, ap, subst, arith, inl, inr, Contains, All}
+use Rattle.std.specs.List.{AllZip, AllByRecursion, slice_get}
+use Rattle.std.proofs.lemmas.List.{take_more, length-map}
+use Rattle.std.proofs.lemmas.List.Elements.{All-nil, All-cons}
+use Rattle.std.proofs.lemmas.Bool.{cases_order}
+use Rattle.std.proofs.lemmas.Option.{same_Some, slice_get_cases}
+use Rattle.av_base.specs.declared.formats.Media.{Media}
+use Rattle.av_base.specs.declared.formats.Media.TheVariants.{Video, Audio}
+use Rattle.av_filter.specs.Outcomes.{IsOne, HasOne, AreAlike, AfterStep, after_value, after_check, after_step, alike_one}
 use Rattle.av_frame.specs.declared.refusals.OptionError.{OptionError}
 use Rattle.av_frame.specs.declared.refusals.OptionError.TheVariants as option
 use Rattle.av_text.specs.declared.fault.TextKind.{TextKind}
 use Rattle.graph_text.specs.Graphs.{IsGraph, IsGraphFault}
 use Rattle.graph_text.specs.declared.graph.FilterCall.{FilterCall}
 use Rattle.graph_text.proofs.GraphLemmas.{one_graph, one_graph_fault, graph_or_fault}
+use Rattle.graph_text.proofs.TotalLemmas.{graph_or_none}
+use Rattle.graph_plan.specs.declared.plan.DraftPlan.{DraftPlan}
+use Rattle.graph_plan.specs.declared.plan.Ending.{Ending}
+use Rattle.graph_plan.specs.declared.plan.Ending.TheVariants.{Y4m, Wav, Frames}
+use Rattle.graph_plan.specs.declared.plan.Pads.{Pads}
+use Rattle.graph_plan.specs.declared.plan.Plan.{Plan}
+use Rattle.graph_plan.specs.Bindings.{IsBound, IsBindFault}
+use Rattle.graph_plan.specs.Graphs.{Graph}
+use Rattle.graph_plan.specs.Paths.{AreSingle, IsPath}
+use Rattle.graph_plan.specs.Refusals.{IsSmall, IsLinked, IsLinkFault}
+use Rattle.graph_plan.proofs.BoundLemmas.{outputs_bind_in_one_way}
+use Rattle.graph_plan.proofs.LawfulLemmas.{plans_are_lawful}
+use Rattle.graph_plan.proofs.OneOfBoth.{graphs_link_in_one_way}
+use Rattle.graph_plan.proofs.PathLemmas.{plans_are_paths}
 use Rattle.node_core.specs.declared.kind.Kind.{Kind}
-use Rattle.node_core.specs.Kinds.{IsKind, IsKindFault}
+use Rattle.node_core.specs.Kinds.{IsKind, IsKindFault, Means}
+use Rattle.node_core.specs.Shaping.{pads_of}
 use Rattle.node_core.proofs.LawLemmas.{one_meaning}
+use Rattle.av_words.specs.declared.command_words.Command.{Command}
+use Rattle.av_words.specs.declared.command_words.InputWord.{InputWord}
+use Rattle.av_words.specs.declared.command_words.InputWord.TheVariants as input
+use Rattle.av_words.specs.declared.command_words.OutputWord.{OutputWord}
+use Rattle.av_words.specs.CommandWords.{IsCommand, IsWordFault}
+use Rattle.av_words.proofs.CommandFacts.{few_inputs, few_outputs, short_text, word_status}
+use Rattle.av_faults.specs.Faults.{stop_status}
+use Rattle.av_words.proofs.WordLawLemmas.{words_say_one_thing}
 use Rattle.av_faults.specs.declared.fault.Fault.{Fault}
-use Rattle.av_faults.specs.declared.fault.Fault.TheVariants.{TextFault}
+use Rattle.av_faults.specs.declared.fault.Fault.TheVariants.{NotYet, TextFault, Limit, OpenFault, ReadFault, WriteFault}
+use Rattle.av_faults.specs.declared.fault.LimitKind.TheVariants.{Filters}
 use Rattle.av_faults.specs.declared.fault.Stop.{Stop}
 use Rattle.av_faults.specs.declared.fault.Stop.TheVariants as stop
-use Rattle.avgraph.specs.Stops.{option_stop}
-use Rattle.avgraph.specs.FirstForm.{words_of}
-use Rattle.avgraph.specs.Requests.{IsBare, SaysFilters, IsRefusedCall, RefusesCalls, TooMany, BadCall, NoChain, RefusesText, TooLong, NoReading, BadCalls, StopsCalls, StopsText}
-use Rattle.avgraph.proofs.StopLemmas.{fault_is}
+use Rattle.av_host.specs.World.{Faults}
+use Rattle.graph_plan.specs.declared.plan.PlanFault.{PlanFault}
+use Rattle.graph_plan.specs.declared.plan.PlanFault.TheVariants as plan
+use Rattle.avgraph.proofs.FileLemmas.{AreKnown}
+use Rattle.avgraph.specs.Bounds.{most_filters}
+use Rattle.avgraph.specs.Chains.{Step}
+use Rattle.avgraph.specs.Jobs.{AreOfPath, Asked, IsSmallCommand}
+use Rattle.avgraph.specs.declared.request.Job.{Job}
+use Rattle.av_base.specs.Failures.{IfFault}
+use Rattle.av_base.specs.declared.failure.Failure.{Failure}
+use Rattle.av_base.specs.declared.failure.Failure.TheVariants as failure
+use Rattle.av_text.specs.declared.fault.TextFault.{TextFault as FaultOfText}
+use Rattle.avgraph.specs.Stops.{option_stop, plan_stop, plan_error_stop, text_stop, CountsStop}
+use Rattle.avgraph.specs.Requests.{IsVideoFile, RunsToday, AreNames, HasTextFault, IsRefusedCall, graph_of, given_by, files_of, Request, AreSteps, IsRequest, refuse, refuse_plan, AsksPlan, AsksDraft, AsksKinds, AsksCalls, AsksCommand, Asks}
+
+-- ---- what can run today
+
+abbrev Decided : Type 0 → Type 0
+Decided P = P ⊎ ¬ P
+
+decide_zero : (n m : ℕ) → Decided (n ≡ m)
+decide_zero n m = elim (cases_order n m) [
+  | inl e ↦ inl e
+  | inr apart ↦ elim apart [ inl less ↦ inr (λ e. absurd (omega arith)) | inr more ↦ inr (λ e. absurd (omega arith)) ]
+]
+
+decide_most : (n m : ℕ) → Decided (n ≤ m)
+decide_most n m = elim (cases_order n m) [
+  | inl e ↦ inl (omega arith)
+  | inr apart ↦ elim apart [ inl less ↦ inl (omega arith) | inr more ↦ inr (λ e. absurd (omega arith)) ]
+]
+
+decide_all : {X : Type 0} (P : X → Type 0) → ((x : X) → Decided (P x)) → (xs : List X) → Decided (AllByRecursion P xs)
+decide_all P each [] = inl tt
+decide_all P each (x ∷ xs) = elim (each x) [
+  | inr none ↦ inr (λ h. none h.0)
+  | inl here ↦ elim (decide_all P each xs) [ inl more ↦ inl (here, more) | inr none ↦ inr (λ h. none h.1) ]
+]
+
+decide_input : (word : InputWord) → Decided (IsVideoFile word)
+decide_input (input.File name Video) = inl refl
+decide_input (input.File name Audio) = inr (λ h. absurd cc)
+decide_input (input.Made seed width height frames) = inr (λ h. h)
+
+decide_ending : (e : Ending) → Decided (e ≡ Y4m)
+decide_ending Y4m = inl refl
+decide_ending Wav = inr (λ h. absurd cc)
+decide_ending Frames = inr (λ h. absurd cc)
+
+decide_empty : {X : Type 0} (xs : List X) → Decided (xs ≡ [])
+decide_empty [] = inl refl
+decide_empty (x ∷ xs) = inr (λ h. absurd cc)
+
+pub today_or_not : (command : Command) → Decided (RunsToday command)
+today_or_not command = elim (decide_all IsVideoFile decide_input command.inputs) [
+  | inr none ↦ inr (λ h. none h.inputs)
+  | inl inputs ↦ elim (decide_all (λ (o : OutputWord). o.file.ending ≡ Y4m) (λ o. decide_ending o.file.ending) command.outputs) [
+    | inr none ↦ inr (λ h. none h.outputs)
+    | inl outputs ↦ elim (decide_zero command.workers 0) [
+      | inr none ↦ inr (λ h. none h.workers)
+      | inl workers ↦ elim (decide_zero command.slices 1) [
+        | inr none ↦ inr (λ h. none h.slices)
+        | inl slices ↦ elim (decide_empty command.order) [
+          | inr none ↦ inr (λ h. none h.order)
+          | inl order ↦ inl (record { inputs = inputs; outputs = outputs; workers = workers; slices = slices; order = order })
+        ]
+      ]
+    ]
+  ]
+]
+
+-- ---- names
+
+names_at : (command : Command) (ins : List InputWord) (outs : List OutputWord) → AllByRecursion IsVideoFile ins → command.inputs ≡ ins → command.outputs ≡ outs
+    → ((names : List ℕ × List ℕ) → ¬ AreNames command names) ⊎ ((names : List ℕ × List ℕ) × AreNames command names)
+names_at command [] outs all a b = inl (λ names h. absurd (let e = ap length (sym a ∙ h.inputs) in omega arith))
+names_at command (i ∷ j ∷ ins) outs all a b = inl (λ names h. absurd (let e = ap length (sym a ∙ h.inputs) in omega arith))
+names_at command (i ∷ []) [] all a b = inl (λ names h. absurd (let e = ap length (sym b ∙ h.outputs) in omega arith))
+names_at command (i ∷ []) (o ∷ p ∷ outs) all a b = inl (λ names h. absurd (let e = ap length (sym b ∙ h.outputs) in omega arith))
+names_at command (input.Made seed width height frames ∷ []) (o ∷ []) all a b = absurd all.0
+names_at command (input.File name kind ∷ []) (o ∷ []) all a b =
+    inr ((name, o.name), record { inputs = a ∙ ap (λ (k : Media). input.File name k ∷ []) all.0; output = o.file; outputs = b })
+
+pub names_or_not : (command : Command) → RunsToday command → ((names : List ℕ × List ℕ) → ¬ AreNames command names) ⊎ ((names : List ℕ × List ℕ) × AreNames command names)
+names_or_not command today = names_at command command.inputs command.outputs today.inputs refl refl
+
+file_name : {n m : List ℕ} {k l : Media} → ◌≡◌ {A = List InputWord} (input.File n k ∷ []) (input.File m l ∷ []) → n ≡ m
+file_name e = cc
+
+names_one : (command : Command) → IsOne (AreNames command)
+names_one command a b p q =
+    let ins : a.0 ≡ b.0 = file_name (sym p.inputs ∙ q.inputs) in
+    let none : OutputWord = record { name = []; file = p.output } in
+    let outs : a.1 ≡ b.1 = ap (λ (os : List OutputWord). (get_or os 0 none).name) (sym p.outputs ∙ q.outputs) in
+    ap (λ (x : List ℕ). (x, a.1)) ins ∙ ap (λ (y : List ℕ). (b.0, y)) outs
+
+-- ---- steps
+
+contains_later : (f g : ℕ) (fs : List ℕ) → Contains fs f → Contains (g ∷ fs) f
+contains_later f g fs h = let n = h.1 in (suc h.0, omega arith, h.2)
+
+pub steps_some : (calls : List FilterCall) (order : List ℕ) → ((f : ℕ) → Contains order f → f < length calls) → (path : List Step) × AreSteps calls order path
+steps_some calls [] below = ([], tt)
+steps_some calls (f ∷ fs) below =
+    let more = steps_some calls fs (λ g h. below g (contains_later g f fs h)) in
+    elim (slice_get_cases calls f).1 [
+      | inl here ↦ ((record { number = f; call = here.0 }) ∷ more.0, ((refl, here.2), more.1))
+      | inr past ↦ absurd (let less = below f (0, omega arith, refl) in let long = past.0 in omega arith)
+    ]
+
+pub steps_one : (calls : List FilterCall) (order : List ℕ) (a b : List Step) → AreSteps calls order a → AreSteps calls order b → a ≡ b
+steps_one calls [] [] [] p q = refl
+steps_one calls [] [] (y ∷ ys) p q = absurd q
+steps_one calls [] (x ∷ xs) b p q = absurd p
+steps_one calls (f ∷ fs) [] b p q = absurd p
+steps_one calls (f ∷ fs) (x ∷ xs) [] p q = absurd q
+steps_one calls (f ∷ fs) (x ∷ xs) (y ∷ ys) p q =
+    let number : x.number ≡ y.number = p.0.0 ∙ sym q.0.0 in
+    let call : x.call ≡ y.call = same_Some x.call y.call (sym p.0.1 ∙ q.0.1) in
+    let step : x ≡ y = ap (λ (n : ℕ). let s : Step = record { number = n; call = x.call } in s) number ∙ ap (λ (c : FilterCall). let s : Step = record { number = y.number; call = c } in s) call in
+    ap (λ (s : Step). s ∷ xs) step ∙ ap (λ (ss : List Step). y ∷ ss) (steps_one calls fs xs ys p.1 q.1)
+
+-- the calls of steps mean filters
+pub steps_known : (calls : List FilterCall) (kinds : List Kind) (order : List ℕ) (path : List Step) → AllZip IsKind calls kinds → AreSteps calls order path → (k : ℕ) (step : Step) → slice_get path k ≡ Some step → (kind : Kind) × IsKind step.call kind
+steps_known calls kinds [] [] zip are k step is = absurd cc
+steps_known calls kinds [] (x ∷ xs) zip are k step is = absurd are
+steps_known calls kinds (f ∷ fs) [] zip are k step is = absurd are
+steps_known calls kinds (f ∷ fs) (x ∷ xs) zip are zero step is = subst (λ (s : Step). (kind : Kind) × IsKind s.call kind) (same_Some x step is) (kind_at calls kinds f x.call zip are.0.1)
+  where
+    kind_at : (cs : List FilterCall) (ks : List Kind) (n : ℕ) (call : FilterCall) → AllZip IsKind cs ks → slice_get cs n ≡ Some call → (kind : Kind) × IsKind call kind
+    kind_at [] ks n call z e = absurd cc
+    kind_at (c ∷ cs) [] n call z e = absurd z
+    kind_at (c ∷ cs) (k ∷ ks) zero call z e = (k, subst (λ (d : FilterCall). IsKind d k) (same_Some c call e) z.0)
+    kind_at (c ∷ cs) (k ∷ ks) (suc n) call z e = kind_at cs ks n call z.1 e
+steps_known calls kinds (f ∷ fs) (x ∷ xs) zip are (suc k) step is = steps_known calls kinds fs xs zip are.1 k step is
 
 -- ---- calls
 
@@ -29,70 +190,39 @@ kinds_or_refused n (c ∷ cs) [] stops zip h = zip
 kinds_or_refused n (c ∷ cs) (k ∷ ks) stops zip (inl h) = one_meaning.not_both c k h.0 zip.0 h.1
 kinds_or_refused n (c ∷ cs) (k ∷ ks) stops zip (inr h) = kinds_or_refused (n + 1) cs ks stops zip.1 h.2
 
-one_refused_call : (n : ℕ) (calls : List FilterCall) (s t : Stop) → IsRefusedCall n calls s → IsRefusedCall n calls t → s ≡ t
+one_refused_call : (n : ℕ) (calls : List FilterCall) → IsOne (IsRefusedCall n calls)
 one_refused_call n [] s t p q = absurd p
 one_refused_call n (c ∷ cs) s t (inl p) (inl q) = p.2 ∙ (ap (option_stop n) (one_meaning.one_fault c p.0 q.0 p.1 q.1) ∙ sym q.2)
 one_refused_call n (c ∷ cs) s t (inl p) (inr q) = absurd (one_meaning.not_both c q.0 p.0 q.1 p.1)
 one_refused_call n (c ∷ cs) s t (inr p) (inl q) = absurd (one_meaning.not_both c p.0 q.0 p.1 q.1)
 one_refused_call n (c ∷ cs) s t (inr p) (inr q) = one_refused_call (n + 1) cs s t p.2 q.2
 
-one_refusal_of_calls : {calls : List FilterCall} {f g : Fault} → RefusesCalls calls f → RefusesCalls calls g → f ≡ g
-one_refusal_of_calls (TooMany many e) (TooMany more d) = e ∙ sym d
-one_refusal_of_calls (TooMany many e) (BadCall few h) = absurd (omega arith)
-one_refusal_of_calls (TooMany many e) (NoChain few kinds zip none d) = absurd (omega arith)
-one_refusal_of_calls (BadCall few h) (TooMany more d) = absurd (omega arith)
-one_refusal_of_calls {calls} {f} {g} (BadCall few h) (BadCall less k) = fault_is (one_refused_call 0 calls (stop.Fault f) (stop.Fault g) h k)
-one_refusal_of_calls {calls} {f} {g} (BadCall few h) (NoChain less kinds zip none d) = absurd (kinds_or_refused 0 calls kinds (stop.Fault f) zip h)
-one_refusal_of_calls (NoChain few kinds zip none e) (TooMany more d) = absurd (omega arith)
-one_refusal_of_calls {calls} {f} {g} (NoChain few kinds zip none e) (BadCall less k) = absurd (kinds_or_refused 0 calls kinds (stop.Fault g) zip k)
-one_refusal_of_calls (NoChain few kinds zip none e) (NoChain less others also nor d) = e ∙ sym d
+kinds_or_some : (n : ℕ) (calls : List FilterCall) → ((kinds : List Kind) × AllZip IsKind calls kinds) ⊎ ((stops : Stop) × IsRefusedCall n calls stops)
+kinds_or_some n [] = inl ([], tt)
+kinds_or_some n (c ∷ cs) = first (kinds_or_some (n + 1) cs) (one_meaning.some c).0 (one_meaning.some c).1
+  where
+    first : ((kinds : List Kind) × AllZip IsKind cs kinds) ⊎ ((stops : Stop) × IsRefusedCall (n + 1) cs stops) → (r : Result Kind OptionError) → Means c r
+        → ((kinds : List Kind) × AllZip IsKind (c ∷ cs) kinds) ⊎ ((stops : Stop) × IsRefusedCall n (c ∷ cs) stops)
+    first others (Err e) m = inr (option_stop n e, inl (e, m, refl))
+    first others (Ok kind) m = elim others [
+      | inl more ↦ inl (kind ∷ more.0, (m, more.1))
+      | inr stops ↦ inr (stops.0, inr (kind, m, stops.1))
+    ]
 
--- ---- texts
+-- filters have the same pads, whichever reading of the calls they are
+pads_same : (calls : List FilterCall) (a b : List Kind) → AllZip IsKind calls a → AllZip IsKind calls b → map pads_of a ≡ map pads_of b
+pads_same [] [] [] p q = refl
+pads_same [] [] (y ∷ ys) p q = absurd q
+pads_same [] (x ∷ xs) b p q = absurd p
+pads_same (c ∷ cs) [] b p q = absurd p
+pads_same (c ∷ cs) (x ∷ xs) [] p q = absurd q
+pads_same (c ∷ cs) (x ∷ xs) (y ∷ ys) p q = ap (λ (ps : List Pads). pads_of x ∷ ps) (pads_same cs xs ys p.1 q.1)
 
-pub one_chain : {text : List ℕ} {a b : List FilterCall} → SaysFilters text a → SaysFilters text b → a ≡ b
-one_chain {text} {a} {b} p q = one_graph text a b p.graph q.graph
-
-says_or_refuses_calls : {text : List ℕ} {calls : List FilterCall} {fault : Fault} → SaysFilters text calls → RefusesCalls calls fault → ⊥
-says_or_refuses_calls p (TooMany many e) = let few = p.few in omega arith
-says_or_refuses_calls {text} {calls} {fault} p (BadCall few h) = kinds_or_refused 0 calls p.kinds (stop.Fault fault) p.are_kinds h
-says_or_refuses_calls p (NoChain few kinds zip none e) = none p.chain
-
-pub says_or_refuses : {text : List ℕ} {calls : List FilterCall} {fault : Fault} → SaysFilters text calls → RefusesText text fault → ⊥
-says_or_refuses p (TooLong long e) = let s = p.short in omega arith
-says_or_refuses {text} {calls} p (NoReading short at kind bad f place e) = graph_or_fault text bad calls kind p.graph f
-says_or_refuses {text} {calls} {fault} p (BadCalls short others g h) =
-    says_or_refuses_calls p (subst (λ (cs : List FilterCall). RefusesCalls cs fault) (one_graph text others calls g p.graph) h)
-
--- two faults of one reading
-same_fault : {text r s : List ℕ} {k l : TextKind} (a b : ℕ) → IsGraphFault text k r → IsGraphFault text l s → a + length r ≡ length text → b + length s ≡ length text → TextFault a k ≡ TextFault b l
-same_fault {text} {r} {s} {k} {l} a b p q at place =
-    let same = one_graph_fault text r s k l p q in
-    let here : a ≡ b = omega (arith, ap length same.1) in
-    let kinds = same.0 in
-    ap (λ (n : ℕ). TextFault n k) here ∙ ap (λ (x : TextKind). TextFault b x) kinds
-
-pub one_refusal : {text : List ℕ} {f g : Fault} → RefusesText text f → RefusesText text g → f ≡ g
-one_refusal (TooLong a e) (TooLong b d) = e ∙ sym d
-one_refusal (TooLong a e) (NoReading b at kind bad q place d) = absurd (omega arith)
-one_refusal (TooLong a e) (BadCalls b calls q h) = absurd (omega arith)
-one_refusal (NoReading a at kind bad p here e) (TooLong b d) = absurd (omega arith)
-one_refusal (NoReading a at kind bad p here e) (NoReading b to other worse q place d) = e ∙ (same_fault at to p q here place ∙ sym d)
-one_refusal {text} (NoReading a at kind bad p here e) (BadCalls b calls q h) = absurd (graph_or_fault text bad calls kind q p)
-one_refusal (BadCalls a calls p h) (TooLong b d) = absurd (omega arith)
-one_refusal {text} (BadCalls a calls p h) (NoReading b at kind bad q place d) = absurd (graph_or_fault text bad calls kind p q)
-one_refusal {text} {f} {g} (BadCalls a calls p h) (BadCalls b others q k) =
-    one_refusal_of_calls h (subst (λ (cs : List FilterCall). RefusesCalls cs g) (one_graph text others calls q p) k)
-
--- ---- words
-
-pub same_words : (words : List (List ℕ)) {a b c d e f : List ℕ} → words_of words ≡ Some (a, b, c) → words_of words ≡ Some (d, e, f) → (a ≡ d) × (b ≡ e) × (c ≡ f)
-same_words words {a} {b} {c} {d} {e} {f} p q =
-    let h : ◌≡◌ {A = Option (List ℕ × List ℕ × List ℕ)} (Some (a, b, c)) (Some (d, e, f)) = sym p ∙ q in
-    let t : ◌≡◌ {A = List ℕ × List ℕ × List ℕ} (a, b, c) (d, e, f) = cc in
-    (ap (λ (z : List ℕ × List ℕ × List ℕ). z.0) t, ap (λ (z : List ℕ × List ℕ × List ℕ). z.1) t, ap (λ (z : List ℕ × List ℕ × List ℕ). z.2) t)
-
-pub no_words : (words : List (List ℕ)) {names : List ℕ × List ℕ × List ℕ} → words_of words ≡ None → words_of words ≡ Some names → ⊥
-no_words words {names} p q = let h : None ≡ Some names = sym p ∙ q in cc
+pub zip_length : (calls : List FilterCall) (kinds : List Kind) → AllZip IsKind calls kinds → length calls ≡ length kinds
+zip_length [] [] zip = refl
+zip_length [] (k ∷ ks) zip = absurd zip
+zip_length (c ∷ cs) [] zip = absurd zip
+zip_length (c ∷ cs) (k ∷ ks) zip = ap suc (zip_length cs ks zip.1)
 
 -- ---- reading calls
 
@@ -125,21 +255,286 @@ call_refused calls kinds i call e within is zip (inl h) = inl (ap (option_stop i
 call_refused calls kinds i call e within is zip (inr h) =
     inr (subst (λ (m : ℕ). IsRefusedCall 0 calls (option_stop m e)) (let z : 0 + i ≡ i = omega arith in z) (refused_from 0 calls kinds i call e within is zip h))
 
--- what stops the reading of kinds stops that of calls
-pub kinds_stop : (calls : List FilterCall) (stops : Stop) → length calls ≤ 256 → (stops ≡ stop.NoMemory) ⊎ IsRefusedCall 0 calls stops → StopsCalls calls stops
-kinds_stop calls (stop.Fault f) few (inl e) = absurd cc
-kinds_stop calls (stop.Fault f) few (inr h) = BadCall few h
-kinds_stop calls stop.NoMemory few h = tt
+-- ---- graphs
 
--- what stops the calls stops the text
-pub calls_stop : (text : List ℕ) (calls : List FilterCall) (stops : Stop) → length text ≤ 65_536 → IsGraph text calls → StopsCalls calls stops → StopsText text stops
-calls_stop text calls (stop.Fault f) short graph h = BadCalls short calls graph h
-calls_stop text calls stop.NoMemory short graph h = short
+all_pads : (P : Pads → Type 0) → ((kind : Kind) → P (pads_of kind)) → (kinds : List Kind) → All P (map pads_of kinds)
+all_pads P each [] = All-nil P
+all_pads P each (k ∷ ks) = All-cons P (pads_of k) (map pads_of ks) (each k) (all_pads P each ks)
 
--- the kinds of a text's calls are what it asks for
-pub says_kinds : (text : List ℕ) (calls items : List FilterCall) (result : Result (Vec Kind Global) Stop) → length text ≤ 65_536 → IsGraph text calls → length calls ≤ 256 → items ≡ calls
-    → IfOk result (λ kinds. AllZip IsKind items kinds.items × AllByRecursion IsBare items) → IfOk result (λ kinds. (cs : List FilterCall) × SaysFilters text cs × AllZip IsKind cs kinds.items)
-says_kinds text calls items (Ok kinds) short graph few same h =
-    let both : AllZip IsKind calls kinds.items × AllByRecursion IsBare calls = subst (λ (cs : List FilterCall). AllZip IsKind cs kinds.items × AllByRecursion IsBare cs) same h in
-    (calls, record { short = short; graph = graph; few = few; kinds = kinds.items; are_kinds = both.0; chain = both.1 }, both.0)
-says_kinds text calls items (Err stops) short graph few same h = tt
+all_single : (kinds : List Kind) → AreSingle (map pads_of kinds)
+all_single kinds = all_pads (λ (p : Pads). (length p.ins ≡ 1) × (length p.outs ≡ 1)) (λ kind. (refl, refl)) kinds
+
+all_few : (kinds : List Kind) → All (λ (p : Pads). length p.outs < 4294967296) (map pads_of kinds)
+all_few kinds = all_pads (λ (p : Pads). length p.outs < 4294967296) (λ kind. omega arith) kinds
+
+-- ---- commands
+
+-- a command is within the limits
+pub small_command : (words : List (List ℕ)) (command : Command) → IsCommand words command → IsSmallCommand command
+small_command words command is = record {
+  inputs = let few = few_inputs words command is in omega arith;
+  outputs = let few = few_outputs words command is in omega arith;
+  text = let short = short_text words command is in omega arith;
+}
+
+module _ (command : Command) (calls : List FilterCall) (kinds : List Kind) (few : length calls ≤ most_filters) (zip : AllZip IsKind calls kinds) (files : IsSmallCommand command) where
+  pub is_small : IsSmall (graph_of command calls kinds)
+  is_small = record {
+    each = length-map kinds pads_of ∙ sym (zip_length calls kinds zip);
+    calls = omega arith;
+    outs = all_few kinds;
+    files = let n = length-map command.inputs given_by in let less = files.inputs in omega arith;
+  }
+
+  -- the plan of one input and one output is a path
+  pub plan_path : (draft : DraftPlan) (plan : Plan) → IsLinked (graph_of command calls kinds) (length command.outputs) draft → IsBound draft (files_of command) plan → (names : List ℕ × List ℕ) → AreNames command names → IsPath plan
+  plan_path draft plan linked bound names are =
+      let outputs : length command.outputs ≡ 1 = ap length are.outputs in
+      plans_are_paths (graph_of command calls kinds) draft (files_of command) plan is_small (all_single kinds) (length-map command.inputs given_by ∙ ap length are.inputs)
+      (length-map command.outputs (λ (o : OutputWord). o.file) ∙ outputs) (subst (λ (n : ℕ). IsLinked (graph_of command calls kinds) n draft) outputs linked) bound
+
+  -- the filters in a plan's order are those of the calls
+  pub plan_steps : (draft : DraftPlan) (plan : Plan) → IsLinked (graph_of command calls kinds) (length command.outputs) draft → IsBound draft (files_of command) plan → (path : List Step) × AreSteps calls plan.order path
+  plan_steps draft plan linked bound = steps_some calls plan.order (plans_are_lawful.lawful (graph_of command calls kinds) (length command.outputs) draft (files_of command) plan is_small linked bound).below
+
+-- ---- each step
+
+plan_gives : (command : Command) (calls : List FilterCall) (plan : Plan) → RunsToday command → ((names : List ℕ × List ℕ) → AreNames command names → IsPath plan) → (path : List Step) × AreSteps calls plan.order path
+    → HasOne (AsksPlan command calls plan)
+plan_gives command calls plan today is_path steps =
+    after_value ((names : List ℕ × List ℕ) → ¬ AreNames command names) (refuse NotYet) (AreNames command) (λ names r. (request : Request) × IsRequest command calls plan names request × (r ≡ Ok request))
+    (names_or_not command today) (names_one command) (λ names are none. none names are) one
+  where
+    same_request : (names : List ℕ × List ℕ) (a b : Request) → IsRequest command calls plan names a → IsRequest command calls plan names b → a ≡ b
+    same_request names a b p q =
+        let path = steps_one calls plan.order a.path b.path p.steps q.steps in
+        ap (λ x. let r : Request = record { input = x; path = a.path; output = a.output; report = a.report } in r) (p.input ∙ sym q.input)
+        ∙ (ap (λ x. let r : Request = record { input = b.input; path = x; output = a.output; report = a.report } in r) path
+        ∙ (ap (λ x. let r : Request = record { input = b.input; path = b.path; output = x; report = a.report } in r) (p.output ∙ sym q.output)
+        ∙ ap (λ x. let r : Request = record { input = b.input; path = b.path; output = b.output; report = x } in r) (p.report ∙ sym q.report)))
+
+    one : (names : List ℕ × List ℕ) → AreNames command names → HasOne (λ (r : Result Request Stop). (request : Request) × IsRequest command calls plan names request × (r ≡ Ok request))
+    one names are =
+        let request : Request = record { input = names.0; path = steps.0; output = names.1; report = command.report } in
+        record {
+          some = (Ok request, (request, record { input = refl; is_path = is_path names are; steps = steps.1; output = refl; report = refl }, refl));
+          one = λ a b p q. p.2 ∙ (ap (λ (r : Request). Ok r) (same_request names p.0 q.0 p.1 q.1) ∙ sym q.2);
+        }
+
+module _ (command : Command) (calls : List FilterCall) (today : RunsToday command) (files : IsSmallCommand command) (few : length calls ≤ most_filters) where
+  draft_gives : (kinds : List Kind) (draft : DraftPlan) → AllZip IsKind calls kinds → IsLinked (graph_of command calls kinds) (length command.outputs) draft → HasOne (AsksDraft command calls draft)
+  draft_gives kinds draft zip linked =
+      let bind = outputs_bind_in_one_way in
+      let outputs = files_of command in
+      after_step (IsBindFault draft.opens outputs) refuse_plan (IsBound draft outputs) (AsksPlan command calls) (bind.one_of_both draft outputs) (bind.one_fault draft.opens outputs) (λ plan fault bound is. bind.not_both draft outputs plan fault bound is)
+      (alike_one (IsBound draft outputs) (AsksPlan command calls) (bind.one_plan draft outputs))
+      (λ plan bound. plan_gives command calls plan today (plan_path command calls kinds few zip files draft plan linked bound) (plan_steps command calls kinds few zip files draft plan linked bound))
+
+  kinds_give : (kinds : List Kind) → AllZip IsKind calls kinds → HasOne (AsksKinds command calls kinds)
+  kinds_give kinds zip =
+      let law = graphs_link_in_one_way in
+      let graph = graph_of command calls kinds in
+      let count = length command.outputs in
+      let small = is_small command calls kinds few zip files in
+      after_step (IsLinkFault graph count) refuse_plan (IsLinked graph count) (AsksDraft command calls) (law.one_of_both graph count small) (law.one_fault graph count) (λ draft fault linked is. law.not_both graph count draft fault small linked is)
+      (alike_one (IsLinked graph count) (AsksDraft command calls) (law.one_draft graph count)) (λ draft linked. draft_gives kinds draft zip linked)
+
+  kinds_alike : AreAlike (AllZip IsKind calls) (AsksKinds command calls)
+  kinds_alike a b r p q h =
+      subst (λ (pads : List Pads). by_pads pads r) (pads_same calls a b p q) h
+    where
+      by_pads : List Pads → Result Request Stop → Type 0
+      by_pads pads =
+          let graph : Graph = record { calls = calls; pads = pads; files = map given_by command.inputs } in
+          AfterStep (IsLinkFault graph (length command.outputs)) refuse_plan (IsLinked graph (length command.outputs)) (AsksDraft command calls)
+
+calls_give : (command : Command) (calls : List FilterCall) → RunsToday command → IsSmallCommand command → HasOne (AsksCalls command calls)
+calls_give command calls today files =
+    after_check (length calls ≤ most_filters) (refuse (Limit Filters 0 most_filters)) (AfterStep (IsRefusedCall 0 calls) Err (AllZip IsKind calls) (AsksKinds command calls)) (decide_most (length calls) most_filters)
+    (λ few. after_step (IsRefusedCall 0 calls) Err (AllZip IsKind calls) (AsksKinds command calls) (kinds_or_some 0 calls) (one_refused_call 0 calls) (λ kinds stops zip refused. kinds_or_refused 0 calls kinds stops zip refused)
+    (kinds_alike command calls today files few) (kinds_give command calls today files few))
+
+-- the faults of texts
+text_fault_one : (text : List ℕ) → IsOne (HasTextFault text)
+text_fault_one text f g p q =
+    let same = one_graph_fault text p.bad q.bad p.kind q.kind p.is_fault q.is_fault in
+    p.fault_is ∙ (ap (λ (n : List ℕ). TextFault (length text - length n) p.kind) same.1 ∙ (ap (λ (k : TextKind). TextFault (length text - length q.bad) k) same.0 ∙ sym q.fault_is))
+
+graph_or_text_fault : (text : List ℕ) → ((calls : List FilterCall) × IsGraph text calls) ⊎ ((fault : Fault) × HasTextFault text fault)
+graph_or_text_fault text = elim (graph_or_none text) [
+  | inl h ↦ inl h
+  | inr h ↦ inr (TextFault (length text - length h.1) h.0, record { kind = h.0; bad = h.1; is_fault = h.2; fault_is = refl })
+]
+
+command_gives : (command : Command) → IsSmallCommand command → HasOne (AsksCommand command)
+command_gives command files =
+    after_check (RunsToday command) (refuse NotYet) (AfterStep (HasTextFault command.text) refuse (IsGraph command.text) (AsksCalls command)) (today_or_not command)
+    (λ today. after_step (HasTextFault command.text) refuse (IsGraph command.text) (AsksCalls command) (graph_or_text_fault command.text) (text_fault_one command.text)
+    (λ calls fault graph is. graph_or_fault command.text is.bad calls is.kind graph is.is_fault) (alike_one (IsGraph command.text) (AsksCalls command) (one_graph command.text)) (λ calls graph. calls_give command calls today files))
+
+pub asks_one : (words : List (List ℕ)) → HasOne (Asks words)
+asks_one words =
+    let law = words_say_one_thing in
+    after_step (IsWordFault words) refuse (IsCommand words) AsksCommand (law.one_of_both words) (law.one_fault words) (λ command fault is has. law.not_both words command fault is has)
+    (alike_one (IsCommand words) AsksCommand (law.one_command words)) (λ command is. command_gives command (small_command words command is))
+
+-- ---- what stops words is no fault of the host
+
+-- no count rises with this
+abbrev NoRise : Type 0 → Faults → Stop → Type 0
+NoRise T faults stops = CountsStop {T = T} (Err stops) faults faults
+
+not_word : {A : Type 0} (n : ℕ) → 10 < n → (n ≡ 2) ⊎ (n ≡ 10) → A
+not_word n more (inl e) = absurd (omega arith)
+not_word n more (inr e) = absurd (omega arith)
+
+word_counts : (T : Type 0) (faults : Faults) (f : Fault) → (stop_status (stop.Fault f) ≡ 2) ⊎ (stop_status (stop.Fault f) ≡ 10) → NoRise T faults (stop.Fault f)
+word_counts T faults OpenFault h = not_word 11 (omega arith) h
+word_counts T faults ReadFault h = not_word 12 (omega arith) h
+word_counts T faults WriteFault h = not_word 13 (omega arith) h
+word_counts T faults other h = refl
+
+option_counts : (T : Type 0) (faults : Faults) (n : ℕ) (e : OptionError) → NoRise T faults (option_stop n e)
+option_counts T faults n option.UnknownFilter = refl
+option_counts T faults n (option.UnknownOption k) = refl
+option_counts T faults n (option.TooManyValues k) = refl
+option_counts T faults n (option.BadValue k) = refl
+option_counts T faults n option.MissingOption = refl
+option_counts T faults n option.NotYet = refl
+option_counts T faults n option.NoMemory = refl
+
+call_counts : (T : Type 0) (faults : Faults) (n : ℕ) (calls : List FilterCall) (stops : Stop) → IsRefusedCall n calls stops → NoRise T faults stops
+call_counts T faults n [] stops h = absurd h
+call_counts T faults n (c ∷ cs) stops (inl h) = subst (NoRise T faults) (sym h.2) (option_counts T faults n h.0)
+call_counts T faults n (c ∷ cs) stops (inr h) = call_counts T faults (n + 1) cs stops h.2
+
+plan_counts : (T : Type 0) (faults : Faults) (f : PlanFault) → NoRise T faults (plan_stop f)
+plan_counts T faults plan.TooManyLinks = refl
+plan_counts T faults (plan.PadCount filter) = refl
+plan_counts T faults (plan.LabelTwice filter) = refl
+plan_counts T faults (plan.UnknownInput filter) = refl
+plan_counts T faults (plan.MediaMismatch filter) = refl
+plan_counts T faults (plan.Cycle filter) = refl
+plan_counts T faults (plan.OpenPad filter pad) = refl
+plan_counts T faults (plan.NoSuchOutput output) = refl
+plan_counts T faults (plan.Unmapped filter pad) = refl
+plan_counts T faults (plan.WrongKind output) = refl
+
+same_stop : {a b : Stop} → ◌≡◌ {A = Result Request Stop} (Err a) (Err b) → a ≡ b
+same_stop e = cc
+
+module _ (T : Type 0) (faults : Faults) where
+  by_same : (stops other : Stop) → ◌≡◌ {A = Result Request Stop} (Err stops) (Err other) → NoRise T faults other → NoRise T faults stops
+  by_same stops other e h = subst (NoRise T faults) (sym (same_stop e)) h
+
+  plan_asks : (command : Command) (calls : List FilterCall) (plan : Plan) (stops : Stop) → AsksPlan command calls plan (Err stops) → NoRise T faults stops
+  plan_asks command calls plan stops (inl h) = by_same stops (stop.Fault NotYet) h.1 refl
+  plan_asks command calls plan stops (inr h) = absurd (let e = h.2.2 in cc)
+
+  draft_asks : (command : Command) (calls : List FilterCall) (draft : DraftPlan) (stops : Stop) → AsksDraft command calls draft (Err stops) → NoRise T faults stops
+  draft_asks command calls draft stops (inl h) = by_same stops (plan_stop h.0) h.2 (plan_counts T faults h.0)
+  draft_asks command calls draft stops (inr h) = plan_asks command calls h.0 stops h.2
+
+  kinds_ask : (command : Command) (calls : List FilterCall) (kinds : List Kind) (stops : Stop) → AsksKinds command calls kinds (Err stops) → NoRise T faults stops
+  kinds_ask command calls kinds stops (inl h) = by_same stops (plan_stop h.0) h.2 (plan_counts T faults h.0)
+  kinds_ask command calls kinds stops (inr h) = draft_asks command calls h.0 stops h.2
+
+  calls_ask : (command : Command) (calls : List FilterCall) (stops : Stop) → AsksCalls command calls (Err stops) → NoRise T faults stops
+  calls_ask command calls stops (inl h) = by_same stops (stop.Fault (Limit Filters 0 most_filters)) h.1 refl
+  calls_ask command calls stops (inr h) = after h.1
+    where
+      after : AfterStep (IsRefusedCall 0 calls) Err (AllZip IsKind calls) (AsksKinds command calls) (Err stops) → NoRise T faults stops
+      after (inl k) = by_same stops k.0 k.2 (call_counts T faults 0 calls k.0 k.1)
+      after (inr k) = kinds_ask command calls k.0 stops k.2
+
+  command_asks : (command : Command) (stops : Stop) → AsksCommand command (Err stops) → NoRise T faults stops
+  command_asks command stops (inl h) = by_same stops (stop.Fault NotYet) h.1 refl
+  command_asks command stops (inr h) = after h.1
+    where
+      after : AfterStep (HasTextFault command.text) refuse (IsGraph command.text) (AsksCalls command) (Err stops) → NoRise T faults stops
+      after (inl k) = by_same stops (stop.Fault k.0) k.2 (subst (λ (f : Fault). NoRise T faults (stop.Fault f)) (sym k.1.fault_is) refl)
+      after (inr k) = calls_ask command k.0 stops k.2
+
+  pub asks_counts : (words : List (List ℕ)) (stops : Stop) → Asks words (Err stops) → CountsStop {T = T} (Err stops) faults faults
+  asks_counts words stops (inl h) = by_same stops (stop.Fault h.0) h.2 (word_counts T faults h.0 (word_status words h.0 h.1))
+  asks_counts words stops (inr h) = command_asks h.0 stops h.2
+
+-- ---- the filters of a request are known
+
+known_from : (path : List Step) → ((k : ℕ) (step : Step) → slice_get path k ≡ Some step → (kind : Kind) × IsKind step.call kind) → AreKnown path
+known_from [] each = tt
+known_from (step ∷ steps) each = (each 0 step refl, known_from steps (λ k s is. each (suc k) s is))
+
+request_is : {a b : Request} → ◌≡◌ {A = Result Request Stop} (Ok a) (Ok b) → a ≡ b
+request_is e = cc
+
+plan_known : (command : Command) (calls : List FilterCall) (kinds : List Kind) (plan : Plan) (request : Request) → AllZip IsKind calls kinds → AsksPlan command calls plan (Ok request) → AreKnown request.path
+plan_known command calls kinds plan request zip (inl h) = absurd (let e = h.1 in cc)
+plan_known command calls kinds plan request zip (inr h) =
+    subst (λ (r : Request). AreKnown r.path) (sym (request_is h.2.2)) (known_from h.2.0.path (steps_known calls kinds plan.order h.2.0.path zip h.2.1.steps))
+
+draft_known : (command : Command) (calls : List FilterCall) (kinds : List Kind) (draft : DraftPlan) (request : Request) → AllZip IsKind calls kinds → AsksDraft command calls draft (Ok request) → AreKnown request.path
+draft_known command calls kinds draft request zip (inl h) = absurd (let e = h.2 in cc)
+draft_known command calls kinds draft request zip (inr h) = plan_known command calls kinds h.0 request zip h.2
+
+kinds_known : (command : Command) (calls : List FilterCall) (kinds : List Kind) (request : Request) → AllZip IsKind calls kinds → AsksKinds command calls kinds (Ok request) → AreKnown request.path
+kinds_known command calls kinds request zip (inl h) = absurd (let e = h.2 in cc)
+kinds_known command calls kinds request zip (inr h) = draft_known command calls kinds h.0 request zip h.2
+
+calls_known : (command : Command) (calls : List FilterCall) (request : Request) → AsksCalls command calls (Ok request) → AreKnown request.path
+calls_known command calls request (inl h) = absurd (let e = h.1 in cc)
+calls_known command calls request (inr h) = after h.1
+  where
+    after : AfterStep (IsRefusedCall 0 calls) Err (AllZip IsKind calls) (AsksKinds command calls) (Ok request) → AreKnown request.path
+    after (inl k) = absurd (let e = k.2 in cc)
+    after (inr k) = kinds_known command calls k.0 request k.1 k.2
+
+command_known : (command : Command) (request : Request) → AsksCommand command (Ok request) → AreKnown request.path
+command_known command request (inl h) = absurd (let e = h.1 in cc)
+command_known command request (inr h) = after h.1
+  where
+    after : AfterStep (HasTextFault command.text) refuse (IsGraph command.text) (AsksCalls command) (Ok request) → AreKnown request.path
+    after (inl k) = absurd (let e = k.2 in cc)
+    after (inr k) = calls_known command k.0 request k.2
+
+pub request_known : (words : List (List ℕ)) (request : Request) → Asks words (Ok request) → AreKnown request.path
+request_known words request (inl h) = absurd (let e = h.2 in cc)
+request_known words request (inr h) = command_known h.0 request h.2
+
+-- ---- what the code keeps of a request
+
+kind_at : (calls : List FilterCall) (kinds : List Kind) (n : ℕ) (call : FilterCall) → AllZip IsKind calls kinds → slice_get calls n ≡ Some call → (kind : Kind) × (slice_get kinds n ≡ Some kind) × IsKind call kind
+kind_at [] kinds n call zip e = absurd cc
+kind_at (c ∷ cs) [] n call zip e = absurd zip
+kind_at (c ∷ cs) (k ∷ ks) zero call zip e = (k, refl, subst (λ (d : FilterCall). IsKind d k) (same_Some c call e) zip.0)
+kind_at (c ∷ cs) (k ∷ ks) (suc n) call zip e = kind_at cs ks n call zip.1 e
+
+pub of_path : (calls : List FilterCall) (kinds : List Kind) (order : List ℕ) (path : List Step) → AllZip IsKind calls kinds → AreSteps calls order path → AreOfPath kinds order path
+of_path calls kinds [] [] zip are = tt
+of_path calls kinds [] (s ∷ ss) zip are = absurd are
+of_path calls kinds (f ∷ fs) [] zip are = absurd are
+of_path calls kinds (f ∷ fs) (s ∷ ss) zip are = ((are.0.0, kind_at calls kinds f s.call zip are.0.1), of_path calls kinds fs ss zip are.1)
+
+-- what the later steps come to is what all come to
+pub asked_next : (P Q : Result Request Stop → Type 0) → ((r : Result Request Stop) → P r → Q r) → (result : Result Job Stop) → Asked P result → Asked Q result
+asked_next P Q f (Ok job) a = (a.0, f (Ok a.0) a.1, a.2)
+asked_next P Q f (Err stops) (inl e) = inl e
+asked_next P Q f (Err stops) (inr h) = inr (f (Err stops) h)
+
+-- a call that found a fault of the graph, or was out of memory
+pub plan_stops : (X : Type 0) (P : PlanFault → Type 0) (Q : Result Request Stop → Type 0) → ((f : PlanFault) → P f → Q (Err (plan_stop f))) → (e : Failure PlanFault) → IfFault {X = X} (Err e) P
+    → (plan_error_stop e ≡ stop.NoMemory) ⊎ Q (Err (plan_error_stop e))
+plan_stops X P Q f (failure.Fault fault) h = inr (f fault h)
+plan_stops X P Q f failure.NoMemory h = inl refl
+
+-- or of the text
+pub text_stops : (X : Type 0) (command : Command) → RunsToday command → (e : Failure FaultOfText) → IfFault {X = X} (Err e) (λ f. (bad : List ℕ) × IsGraphFault command.text f.kind bad × (f.at + length bad ≡ length command.text))
+    → (text_stop e ≡ stop.NoMemory) ⊎ AsksCommand command (Err (text_stop e))
+text_stops X command today (failure.Fault f) h =
+    let place : f.at ≡ length command.text - length h.0 = let e = h.2 in omega arith in
+    inr (inr (today, inl (TextFault f.at f.kind, record { kind = f.kind; bad = h.0; is_fault = h.1; fault_is = ap (λ (n : ℕ). TextFault n f.kind) place }, refl)))
+text_stops X command today failure.NoMemory h = inl refl
+
+-- graphs of the same pads and files
+pub graph_is : (calls : List FilterCall) (a b : List Pads) (m n : List Media) → a ≡ b → m ≡ n → ◌≡◌ {A = Graph} (record { calls = calls; pads = a; files = m }) (record { calls = calls; pads = b; files = n })
+graph_is calls a b m n p q = ap (λ (x : List Pads). let g : Graph = record { calls = calls; pads = x; files = m } in g) p ∙ ap (λ (x : List Media). let g : Graph = record { calls = calls; pads = b; files = x } in g) q

@@ -1,9 +1,5 @@
--- The limits of a command.
+-- The limits of a command, besides those of its words and of its links.
 use Rattle.std.specs.Prelude.{◌^◌, ℕ}
-
--- the greatest number of bytes of a graph text
-abbrev pub greatest_text : ℕ
-greatest_text = 65_536
 
 -- the greatest number of filters of a graph
 abbrev pub most_filters : ℕ

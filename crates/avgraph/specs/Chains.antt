@@ -1,4 +1,4 @@
--- Chains of filters, each ready for what the one before it gives.
+-- Paths of filters, each ready for what the one before it gives.
 use Rattle.std.specs.Prelude.{◌≡◌, ℕ, ℤ, Bool, ◌≤ℤ◌, List, [], ◌∷◌}
 use Rattle.av_base.specs.declared.shapes.Shape.{Shape}
 use Rattle.av_frame.specs.Frames.{FrameValue}
@@ -20,18 +20,23 @@ pub record IsReadied (call : FilterCall) (s : Shape) (ready : ReadyValue) : Type
   pub takes : Takes kind s.format
   pub is_ready : IsReady kind s ready
 
--- the calls' filters are ready one after the other, the first for pictures of shape s, and the last gives shape t
-abbrev pub AreReady : List FilterCall → Shape → List ReadyValue → Shape → Type 0
-AreReady [] s [] t = t ≡ s
-AreReady (call ∷ calls) s (ready ∷ readies) t = IsReadied call s ready × ((u : Shape) × (ready.outs ≡ u ∷ []) × AreReady calls u readies t)
-AreReady calls s readies t = ⊥
+-- a filter on a path: its number in the graph, and its call
+pub record Step : Type 0 where
+  pub number : ℕ
+  pub call : FilterCall
 
--- the frames at the end of a chain
+-- the path's filters are ready one after the other, the first for pictures of shape s, and the last gives shape t
+abbrev pub AreReady : List Step → Shape → List ReadyValue → Shape → Type 0
+AreReady [] s [] t = t ≡ s
+AreReady (step ∷ steps) s (ready ∷ readies) t = IsReadied step.call s ready × ((u : Shape) × (ready.outs ≡ u ∷ []) × AreReady steps u readies t)
+AreReady steps s readies t = ⊥
+
+-- the frames at the end of a path
 abbrev pub through : List ReadyValue → List FrameValue → List FrameValue
 through [] frames = frames
 through (ready ∷ readies) frames = through readies (given ready frames)
 
--- the frame at the end of a chain for one by itself
+-- the frame at the end of a path for one by itself
 abbrev pub passed : List ReadyValue → FrameValue → FrameValue
 passed [] frame = frame
 passed (ready ∷ readies) frame = passed readies (made_by ready frame)

@@ -1,5 +1,5 @@
--- What the command does to the files.
-use Rattle.std.specs.Prelude.{◌≡◌, ◌≢◌, ◌⊎◌, ◌-◌, ◌≤◌, ℕ, pos, List, [], true, false, take, length, Some, Result, Ok, Err}
+-- What a request does to the files.
+use Rattle.std.specs.Prelude.{◌≡◌, ◌≢◌, ◌⊎◌, ◌-◌, ◌≤◌, ℕ, pos, List, [], true, false, take, drop, length, Option, Some, Result, Ok, Err}
 use Rattle.std.specs.Option.{ForSome}
 use Rattle.av_base.specs.declared.shapes.Shape.{Shape}
 use Rattle.av_host.specs.World.{World, Inputs}
@@ -10,20 +10,24 @@ use Rattle.av_frame.specs.declared.faults.HeadError.{HeadError}
 use Rattle.av_frame.specs.declared.faults.HeadError.TheVariants as head
 use Rattle.av_frame.specs.Frames.{FrameValue}
 use Rattle.y4m_io.specs.HeaderTexts.{IsHeader, BeginsHeader, header_text}
-use Rattle.graph_text.specs.declared.graph.FilterCall.{FilterCall}
-use Rattle.node_core.specs.Shaping.{ReadyValue}
-use Rattle.avgraph.specs.Chains.{ChainValue, AreReady, through}
-use Rattle.av_faults.specs.Faults.{IsOfFile}
-use Rattle.avgraph.specs.Answers.{Answers, RefusesShape, IsFileFault}
 use Rattle.y4m_io.specs.Files.{BeginsFile, open_text}
 use Rattle.y4m_io.specs.Reading.{Reading}
 use Rattle.y4m_io.specs.Writing.{Writing}
 use Rattle.y4m_io.specs.declared.y4m_state.Stage.TheVariants as stage
 use Rattle.y4m_io.specs.declared.y4m_state.Progress.TheVariants as progress
+use Rattle.node_core.specs.Shaping.{ReadyValue}
 use Rattle.av_faults.specs.declared.fault.Fault.{Fault}
 use Rattle.av_faults.specs.declared.fault.Fault.TheVariants.{NotYet, OpenFault, ReadFault, WriteFault}
 use Rattle.av_faults.specs.declared.fault.Stop.{Stop}
 use Rattle.av_faults.specs.declared.fault.Stop.TheVariants as stop
+use Rattle.avgraph.specs.Chains.{Step, ChainValue, AreReady, through}
+use Rattle.avgraph.specs.Answers.{Answer, ShapeGives, FileGives, reject}
+use Rattle.avgraph.specs.Requests.{Request}
+use Rattle.avgraph.specs.declared.report.Counts.{Counts}
+
+-- some bytes that an input may hold: those that the host tells of it, or any if it tells none
+abbrev pub MayHold : Option (List ℕ) → (List ℕ → Type 0) → Type 0
+MayHold held P = (bytes : List ℕ) × ForSome held (λ all. all ≡ bytes) × P bytes
 
 abbrev pub stop_of_opening : HostError → Stop
 stop_of_opening host.Failed = stop.Fault OpenFault
@@ -69,7 +73,7 @@ pub record OpensWell (limit : ℕ) (old new : World) (name : List ℕ) (reader :
 
 abbrev pub OpensFile : ℕ → World → World → List ℕ → Result (Reading × Shape) Stop → Type 0
 OpensFile limit old new name (Ok both) = OpensWell limit old new name both.0 both.1
-OpensFile limit old new name (Err (stop.Fault NotYet)) = LeavesAll old new × ForSome (old.held name) (λ bytes. ¬ BeginsHeader (take limit bytes))
+OpensFile limit old new name (Err (stop.Fault NotYet)) = LeavesAll old new × MayHold (old.held name) (λ bytes. ¬ BeginsHeader (take limit bytes))
 OpensFile limit old new name (Err (stop.Fault OpenFault)) = LeavesAll old new
 OpensFile limit old new name (Err (stop.Fault ReadFault)) = LeavesAll old new
 OpensFile limit old new name (Err (stop.Fault WriteFault)) = LeavesAll old new
@@ -88,7 +92,7 @@ CreatesPart old new name shape = LeavesAll old new ⊎ ((id : ℕ) × (count : �
 
 abbrev pub CreatesFile : World → World → List ℕ → Shape → Result Writing Stop → Type 0
 CreatesFile old new name shape (Ok writer) =
-    CreatesWith old new name writer.id (header_text shape) × (writer ≡ record { id = writer.id; shape = shape; progress = progress.Started })
+    CreatesWith old new name writer.id (header_text shape) × (writer ≡ record { id = writer.id; shape = shape; progress = progress.Started; bytes = length (header_text shape) })
 CreatesFile old new name shape (Err (stop.Fault OpenFault)) = CreatesPart old new name shape
 CreatesFile old new name shape (Err (stop.Fault WriteFault)) = CreatesPart old new name shape
 CreatesFile old new name shape (Err stop.NoMemory) = CreatesPart old new name shape
@@ -96,78 +100,97 @@ CreatesFile old new name shape (Err other) = ⊥
 
 -- ---- making ready
 
--- the chain runs the calls' filters, ready for pictures of a shape, and no frame was passed yet
-pub record IsChainFor (calls : List FilterCall) (shape : Shape) (chain : ChainValue) : Type 0 where
+-- the chain runs the path's filters, ready for pictures of a shape, and no frame was passed yet
+pub record IsChainFor (path : List Step) (shape : Shape) (chain : ChainValue) : Type 0 where
   pub shape_is : chain.shape ≡ shape
-  pub ready : AreReady calls shape chain.readies chain.end
+  pub ready : AreReady path shape chain.readies chain.end
   pub next : chain.next ≡ pos 0
   pub fresh : chain.spent ≡ false
 
--- what stops the making ready: its fault, or out of memory
-abbrev pub StopsShape : List FilterCall → Shape → Stop → Type 0
-StopsShape calls shape (stop.Fault fault) = RefusesShape calls shape fault
-StopsShape calls shape stop.NoMemory = Unit {0}
+-- what stops the making ready, whatever follows the header: its fault, or out of memory
+abbrev pub StopsShape : List Step → Shape → Stop → Type 0
+StopsShape path shape stops = (stops ≡ stop.NoMemory) ⊎ ((limit : ℕ) (bytes : List ℕ) → ShapeGives limit path bytes shape (Err stops))
 
--- the fault is one of files, and the input has it
-pub record StandsIn (limit : ℕ) (calls : List FilterCall) (old : World) (input : List ℕ) (fault : Fault) : Type 0 where
-  pub of_file : IsOfFile fault
-  pub stands : ForSome (old.held input) (λ bytes. IsFileFault limit calls bytes fault)
+-- it is the fault of a file that the input may be
+abbrev pub StandsIn : ℕ → List Step → World → List ℕ → Fault → Type 0
+StandsIn limit path old input fault = MayHold (old.held input) (λ bytes. FileGives limit path bytes (reject fault))
 
 -- The input was opened, its header read, and the filters made ready for its pictures.
-pub record PreparesWell (limit : ℕ) (calls : List FilterCall) (old new : World) (input : List ℕ) (reader : Reading) (chain : ChainValue) : Type 0 where
+pub record PreparesWell (limit : ℕ) (path : List Step) (old new : World) (input : List ℕ) (reader : Reading) (chain : ChainValue) : Type 0 where
   pub opens : OpensWell limit old new input reader chain.shape
-  pub is_chain : IsChainFor calls chain.shape chain
+  pub is_chain : IsChainFor path chain.shape chain
 
-abbrev pub Prepares : ℕ → List FilterCall → World → World → List ℕ → Result (Reading × ChainValue) Stop → Type 0
-Prepares limit calls old new input (Ok both) = PreparesWell limit calls old new input both.0 both.1
-Prepares limit calls old new input (Err (stop.Fault OpenFault)) = LeavesAll old new
-Prepares limit calls old new input (Err (stop.Fault ReadFault)) = LeavesAll old new
-Prepares limit calls old new input (Err (stop.Fault WriteFault)) = LeavesAll old new
-Prepares limit calls old new input (Err (stop.Fault fault)) = LeavesAll old new × StandsIn limit calls old input fault
-Prepares limit calls old new input (Err stop.NoMemory) = LeavesAll old new
+abbrev pub Prepares : ℕ → List Step → World → World → List ℕ → Result (Reading × ChainValue) Stop → Type 0
+Prepares limit path old new input (Ok both) = PreparesWell limit path old new input both.0 both.1
+Prepares limit path old new input (Err (stop.Fault OpenFault)) = LeavesAll old new
+Prepares limit path old new input (Err (stop.Fault ReadFault)) = LeavesAll old new
+Prepares limit path old new input (Err (stop.Fault WriteFault)) = LeavesAll old new
+Prepares limit path old new input (Err (stop.Fault fault)) = LeavesAll old new × StandsIn limit path old input fault
+Prepares limit path old new input (Err stop.NoMemory) = LeavesAll old new
 
--- ---- the whole command
+-- ---- the whole request
 
--- An input that was opened has nothing left.
-pub record IsReadToEnd (old new : World) : Type 0 where
+-- an input that this run opened
+pub record IsOpened (old new : Inputs) (id : ℕ) : Type 0 where
+  pub is_new : old.is_open id ≡ false
+  pub is_open : new.is_open id ≡ true
+
+-- an input was opened, and of all inputs that were nothing is left
+pub record AreReadToEnd (old new : Inputs) : Type 0 where
+  pub some : (id : ℕ) × IsOpened old new id
+  pub all : (id : ℕ) → IsOpened old new id → new.left id ≡ Some []
+
+-- the counts of an answer
+pub record AreCounts (counts : Counts) (answer : Answer) : Type 0 where
+  pub read : counts.frames ≡ answer.read
+  pub written : counts.frames ≡ answer.written
+  pub bytes : counts.bytes ≡ length answer.out
+
+-- an input was opened, and a header line read from it
+pub record HeadIsRead (old new : Inputs) (bytes : Option (List ℕ)) : Type 0 where
   pub id : ℕ
-  pub is_new : old.inputs.is_open id ≡ false
-  pub is_open : new.inputs.is_open id ≡ true
-  pub left : new.inputs.left id ≡ Some []
+  pub opened : IsOpened old new id
+  pub line : List ℕ
+  pub shape : Shape
+  pub header : IsHeader line shape
+  pub count : ℕ
+  pub read : length line ≤ count
+  pub left : ForSome bytes (λ all. new.left id ≡ Some (drop count all))
 
--- The whole result was written, and the input read to its end.
-pub record Finishes (limit : ℕ) (calls : List FilterCall) (old new : World) (input output : List ℕ) : Type 0 where
-  pub bytes : List ℕ
-  pub out : List ℕ
-  pub answers : Answers limit calls bytes out
-  pub leaves : Leaves old new output out
-  pub held : ForSome (old.held input) (λ all. all ≡ bytes)
-  pub to_end : ForSome (old.held input) (λ _. IsReadToEnd old new)
+-- The whole answer was written, and the input read to its end.
+pub record Finishes (limit : ℕ) (request : Request) (old new : World) (counts : Counts) (bytes : List ℕ) : Type 0 where
+  pub answer : Answer
+  pub gives : FileGives limit request.path bytes (Ok answer)
+  pub leaves : Leaves old new request.output answer.out
+  pub to_end : ForSome (old.held request.input) (λ _. AreReadToEnd old.inputs new.inputs)
+  pub head : HeadIsRead old.inputs new.inputs (old.held request.input)
+  pub counts_are : AreCounts counts answer
 
--- a beginning of the open text of the frames that the filters give for leading frames of the input
-pub record IsBegun (calls : List FilterCall) (bytes put : List ℕ) : Type 0 where
+-- a beginning of the open text of the frames that the filters give for leading frames of the input, within the limit
+pub record IsBegun (limit : ℕ) (path : List Step) (bytes put : List ℕ) : Type 0 where
   pub shape : Shape
   pub frames : List FrameValue
   pub readies : List ReadyValue
   pub end : Shape
   pub count : ℕ
-  pub file : BeginsFile bytes shape frames
-  pub ready : AreReady calls shape readies end
+  pub file : BeginsFile (take limit bytes) shape frames
+  pub ready : AreReady path shape readies end
   pub put_is : put ≡ take count (open_text end (through readies frames))
 
--- The output was created, and holds a beginning of the result.
-pub record Breaks (calls : List FilterCall) (old new : World) (input output : List ℕ) : Type 0 where
+-- The input was opened and its header read, and then the output was created, which holds a beginning of the answer.
+pub record Breaks (limit : ℕ) (request : Request) (old new : World) (bytes : List ℕ) : Type 0 where
   pub put : List ℕ
-  pub leaves : Leaves old new output put
-  pub begun : ForSome (old.held input) (λ bytes. IsBegun calls bytes put)
+  pub leaves : Leaves old new request.output put
+  pub head : HeadIsRead old.inputs new.inputs (old.held request.input)
+  pub begun : IsBegun limit request.path bytes put
 
-abbrev pub Stops : List FilterCall → World → World → List ℕ → List ℕ → Type 0
-Stops calls old new input output = LeavesAll old new ⊎ Breaks calls old new input output
+abbrev pub Stops : ℕ → Request → World → World → Type 0
+Stops limit request old new = LeavesAll old new ⊎ MayHold (old.held request.input) (Breaks limit request old new)
 
-abbrev pub Commands : ℕ → List FilterCall → World → World → List ℕ → List ℕ → Result (Unit {0}) Stop → Type 0
-Commands limit calls old new input output (Ok done) = Finishes limit calls old new input output
-Commands limit calls old new input output (Err (stop.Fault OpenFault)) = Stops calls old new input output
-Commands limit calls old new input output (Err (stop.Fault ReadFault)) = Stops calls old new input output
-Commands limit calls old new input output (Err (stop.Fault WriteFault)) = Stops calls old new input output
-Commands limit calls old new input output (Err (stop.Fault fault)) = Stops calls old new input output × StandsIn limit calls old input fault
-Commands limit calls old new input output (Err stop.NoMemory) = Stops calls old new input output
+abbrev pub Commands : ℕ → Request → World → World → Result Counts Stop → Type 0
+Commands limit request old new (Ok counts) = MayHold (old.held request.input) (Finishes limit request old new counts)
+Commands limit request old new (Err (stop.Fault OpenFault)) = Stops limit request old new
+Commands limit request old new (Err (stop.Fault ReadFault)) = Stops limit request old new
+Commands limit request old new (Err (stop.Fault WriteFault)) = Stops limit request old new
+Commands limit request old new (Err (stop.Fault fault)) = Stops limit request old new × StandsIn limit request.path old request.input fault
+Commands limit request old new (Err stop.NoMemory) = Stops limit request old new

@@ -1,8 +1,8 @@
 pub mod Bounds
-pub mod FirstForm
 pub mod Stops
-pub mod Requests
 pub mod Chains
+pub mod Requests
+pub mod Jobs
 pub mod Running
 pub mod Answers
 pub mod Commands

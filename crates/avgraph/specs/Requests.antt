@@ -1,37 +1,68 @@
--- What words ask for, or why they are rejected.
-use Rattle.std.specs.Prelude.{◌≡◌, ◌<◌, ◌≤◌, ◌+◌, ◌⊎◌, ℕ, List, [], ◌∷◌, Some, None, length}
-use Rattle.std.specs.List.{AllZip, AllByRecursion}
+-- What a command line asks for, or what stops it before any file is opened.
+use Rattle.std.specs.Prelude.{◌≡◌, ◌≤◌, ◌+◌, ◌-◌, ◌⊎◌, ℕ, Bool, List, [], ◌∷◌, Some, length, map, Result, Ok, Err}
+use Rattle.std.specs.List.{AllZip, AllByRecursion, slice_get}
+use Rattle.av_base.specs.declared.formats.Media.{Media}
+use Rattle.av_base.specs.declared.formats.Media.TheVariants.{Video}
 use Rattle.av_text.specs.declared.fault.TextKind.{TextKind}
 use Rattle.graph_text.specs.Graphs.{IsGraph, IsGraphFault}
 use Rattle.graph_text.specs.declared.graph.FilterCall.{FilterCall}
+use Rattle.graph_plan.specs.declared.plan.DraftPlan.{DraftPlan}
+use Rattle.graph_plan.specs.declared.plan.Plan.{Plan}
+use Rattle.graph_plan.specs.declared.plan.OutputFile.{OutputFile}
+use Rattle.graph_plan.specs.declared.plan.PlanFault.{PlanFault}
+use Rattle.graph_plan.specs.declared.plan.Ending.TheVariants.{Y4m}
+use Rattle.graph_plan.specs.Graphs.{Graph}
+use Rattle.graph_plan.specs.Refusals.{IsLinked, IsLinkFault}
+use Rattle.graph_plan.specs.Bindings.{IsBound, IsBindFault}
+use Rattle.graph_plan.specs.Paths.{IsPath}
+use Rattle.av_filter.specs.Outcomes.{AfterCheck, AfterStep, AfterValue}
 use Rattle.av_frame.specs.declared.refusals.OptionError.{OptionError}
 use Rattle.node_core.specs.declared.kind.Kind.{Kind}
 use Rattle.node_core.specs.Kinds.{IsKind, IsKindFault}
+use Rattle.node_core.specs.Shaping.{pads_of}
+use Rattle.av_words.specs.declared.command_words.Command.{Command}
+use Rattle.av_words.specs.declared.command_words.InputWord.{InputWord}
+use Rattle.av_words.specs.declared.command_words.InputWord.TheVariants as input
+use Rattle.av_words.specs.declared.command_words.OutputWord.{OutputWord}
+use Rattle.av_words.specs.CommandWords.{IsCommand, IsWordFault}
 use Rattle.av_faults.specs.declared.fault.Fault.{Fault}
 use Rattle.av_faults.specs.declared.fault.Fault.TheVariants.{NotYet, TextFault, Limit}
-use Rattle.av_faults.specs.declared.fault.LimitKind.TheVariants.{Text, Filters}
+use Rattle.av_faults.specs.declared.fault.LimitKind.TheVariants.{Filters}
 use Rattle.av_faults.specs.declared.fault.Stop.{Stop}
 use Rattle.av_faults.specs.declared.fault.Stop.TheVariants as stop
-use Rattle.avgraph.specs.Stops.{option_stop}
-use Rattle.avgraph.specs.FirstForm.{words_of}
-use Rattle.avgraph.specs.Bounds.{greatest_text, most_filters}
+use Rattle.avgraph.specs.Stops.{option_stop, plan_stop}
+use Rattle.avgraph.specs.Chains.{Step}
+use Rattle.avgraph.specs.Bounds.{most_filters}
 
--- ---- texts
+-- ---- what can run today
 
--- a call of the first chain, without labels
-pub record IsBare (call : FilterCall) : Type 0 where
-  pub chain : call.chain ≡ 0
-  pub ins : call.ins ≡ []
-  pub outs : call.outs ≡ []
+-- an input file of video
+abbrev pub IsVideoFile : InputWord → Type 0
+IsVideoFile (input.File name kind) = kind ≡ Video
+IsVideoFile (input.Made seed width height frames) = ⊥
 
--- the text calls one chain of filters without labels, within the limits, and none of them is rejected
-pub record SaysFilters (text : List ℕ) (calls : List FilterCall) : Type 0 where
-  pub short : length text ≤ greatest_text
-  pub graph : IsGraph text calls
-  pub few : length calls ≤ most_filters
-  pub kinds : List Kind
-  pub are_kinds : AllZip IsKind calls kinds
-  pub chain : AllByRecursion IsBare calls
+-- files of Y4M alone, on one thread, in no order that was asked for
+pub record RunsToday (command : Command) : Type 0 where
+  pub inputs : AllByRecursion IsVideoFile command.inputs
+  pub outputs : AllByRecursion (λ (o : OutputWord). o.file.ending ≡ Y4m) command.outputs
+  pub workers : command.workers ≡ 0
+  pub slices : command.slices ≡ 1
+  pub order : command.order ≡ []
+
+-- the names of the one input and of the one output
+pub record AreNames (command : Command) (names : List ℕ × List ℕ) : Type 0 where
+  pub inputs : command.inputs ≡ input.File names.0 Video ∷ []
+  pub output : OutputFile
+  pub outputs : command.outputs ≡ (record { name = names.1; file = output }) ∷ []
+
+-- ---- graphs
+
+-- the text has no reading, and this is its fault, where the rest begins that can't be read
+pub record HasTextFault (text : List ℕ) (fault : Fault) : Type 0 where
+  pub kind : TextKind
+  pub bad : List ℕ
+  pub is_fault : IsGraphFault text kind bad
+  pub fault_is : fault ≡ TextFault (length text - length bad) kind
 
 -- the first call that is rejected, of those of which the first listed is the n-th filter, stops the command with this
 abbrev pub IsRefusedCall : ℕ → List FilterCall → Stop → Type 0
@@ -39,55 +70,71 @@ IsRefusedCall n [] stops = ⊥
 IsRefusedCall n (call ∷ calls) stops = ((e : OptionError) × IsKindFault call e × (stops ≡ option_stop n e))
     ⊎ ((kind : Kind) × IsKind call kind × IsRefusedCall (n + 1) calls stops)
 
--- why calls are rejected: they are too many; else one of them is rejected; else they aren't one chain without labels, which
--- alone can run today
-pub data RefusesCalls (calls : List FilterCall) (fault : Fault) : Type 0 where
-  TooMany : most_filters < length calls → fault ≡ Limit Filters 0 most_filters → RefusesCalls calls fault
-  BadCall : length calls ≤ most_filters → IsRefusedCall 0 calls (stop.Fault fault) → RefusesCalls calls fault
-  NoChain : length calls ≤ most_filters → (kinds : List Kind) → AllZip IsKind calls kinds → ¬ AllByRecursion IsBare calls → fault ≡ NotYet → RefusesCalls calls fault
+-- what an input gives
+abbrev pub given_by : InputWord → Media
+given_by (input.File name kind) = kind
+given_by (input.Made seed width height frames) = Video
 
--- why a text is rejected: it is too long; else it has no reading; else its calls are rejected
-pub data RefusesText (text : List ℕ) (fault : Fault) : Type 0 where
-  TooLong : greatest_text < length text → fault ≡ Limit Text 0 greatest_text → RefusesText text fault
-  NoReading : length text ≤ greatest_text → (at : ℕ) (kind : TextKind) (bad : List ℕ) → IsGraphFault text kind bad → at + length bad ≡ length text
-      → fault ≡ TextFault at kind → RefusesText text fault
-  BadCalls : length text ≤ greatest_text → (calls : List FilterCall) → IsGraph text calls → RefusesCalls calls fault → RefusesText text fault
+-- the graph of the calls, which mean these filters
+abbrev pub graph_of : Command → List FilterCall → List Kind → Graph
+graph_of command calls kinds = record { calls = calls; pads = map pads_of kinds; files = map given_by command.inputs }
 
--- what stops the reading of calls: their fault, or out of memory
-abbrev pub StopsCalls : List FilterCall → Stop → Type 0
-StopsCalls calls (stop.Fault fault) = RefusesCalls calls fault
-StopsCalls calls stop.NoMemory = Unit {0}
+-- the output files
+abbrev pub files_of : Command → List OutputFile
+files_of command = map (λ (o : OutputWord). o.file) command.outputs
 
--- what stops the reading of a text: its fault, or out of memory if it isn't too long
-abbrev pub StopsText : List ℕ → Stop → Type 0
-StopsText text (stop.Fault fault) = RefusesText text fault
-StopsText text stop.NoMemory = length text ≤ greatest_text
+-- ---- requests
 
--- ---- words
-
--- what is read, the calls of the filters that its frames pass, and what is written
+-- what is read, the filters that its frames pass, one after another, what is written, and whether a report is asked for
 pub record Request : Type 0 where
   pub input : List ℕ
-  pub calls : List FilterCall
+  pub path : List Step
   pub output : List ℕ
+  pub report : Bool
 
-pub record IsRequest (words : List (List ℕ)) (request : Request) : Type 0 where
-  pub text : List ℕ
-  pub words_are : words_of words ≡ Some (request.input, text, request.output)
-  pub says : SaysFilters text request.calls
+-- the numbers and the calls of these filters
+abbrev pub AreSteps : List FilterCall → List ℕ → List Step → Type 0
+AreSteps calls filters path = AllZip (λ filter (step : Step). (step.number ≡ filter) × (slice_get calls filter ≡ Some step.call)) filters path
 
--- words of another form, or a text that is rejected
-abbrev pub IsRefused : List (List ℕ) → Fault → Type 0
-IsRefused words fault = ((words_of words ≡ None) × (fault ≡ NotYet))
-    ⊎ ((input text output : List ℕ) × (words_of words ≡ Some (input, text, output)) × RefusesText text fault)
+-- the request of a plan with one input and one output, which is the path through the filters in their order
+pub record IsRequest (command : Command) (calls : List FilterCall) (plan : Plan) (names : List ℕ × List ℕ) (request : Request) : Type 0 where
+  pub input : request.input ≡ names.0
+  pub is_path : IsPath plan
+  pub steps : AreSteps calls plan.order request.path
+  pub output : request.output ≡ names.1
+  pub report : request.report ≡ command.report
 
--- the faults for which the text isn't read
-abbrev pub IsRefusedAtOnce : List (List ℕ) → Fault → Type 0
-IsRefusedAtOnce words fault = ((words_of words ≡ None) × (fault ≡ NotYet))
-    ⊎ ((input text output : List ℕ) × (words_of words ≡ Some (input, text, output)) × (greatest_text < length text) × (fault ≡ Limit Text 0 greatest_text))
+-- ---- what a command line comes to, in the order of its checks
 
--- words ask for at most one thing, or have at most one fault, and never both
-pub record RequestsAreOne : Type 0 where
-  pub one : (words : List (List ℕ)) (r s : Request) → IsRequest words r → IsRequest words s → r ≡ s
-  pub not_both : (words : List (List ℕ)) (r : Request) (fault : Fault) → IsRequest words r → ¬ IsRefused words fault
-  pub one_fault : (words : List (List ℕ)) (f g : Fault) → IsRefused words f → IsRefused words g → f ≡ g
+abbrev pub refuse : Fault → Result Request Stop
+refuse fault = Err (stop.Fault fault)
+
+abbrev pub refuse_plan : PlanFault → Result Request Stop
+refuse_plan fault = Err (plan_stop fault)
+
+-- one input and one output can run today
+abbrev pub AsksPlan : Command → List FilterCall → Plan → Result Request Stop → Type 0
+AsksPlan command calls plan = AfterValue ((names : List ℕ × List ℕ) → ¬ AreNames command names) (refuse NotYet) (AreNames command) (λ names r.
+    (request : Request) × IsRequest command calls plan names request × (r ≡ Ok request))
+
+-- the outputs are bound
+abbrev pub AsksDraft : Command → List FilterCall → DraftPlan → Result Request Stop → Type 0
+AsksDraft command calls draft = AfterStep (IsBindFault draft.opens (files_of command)) refuse_plan (IsBound draft (files_of command)) (AsksPlan command calls)
+
+-- the filters are linked
+abbrev pub AsksKinds : Command → List FilterCall → List Kind → Result Request Stop → Type 0
+AsksKinds command calls kinds =
+    AfterStep (IsLinkFault (graph_of command calls kinds) (length command.outputs)) refuse_plan (IsLinked (graph_of command calls kinds) (length command.outputs)) (AsksDraft command calls)
+
+-- the filters are not too many, and each is named with options that it takes
+abbrev pub AsksCalls : Command → List FilterCall → Result Request Stop → Type 0
+AsksCalls command calls =
+    AfterCheck (length calls ≤ most_filters) (refuse (Limit Filters 0 most_filters)) (AfterStep (IsRefusedCall 0 calls) Err (AllZip IsKind calls) (AsksKinds command calls))
+
+-- the command can run today, and its text is read
+abbrev pub AsksCommand : Command → Result Request Stop → Type 0
+AsksCommand command = AfterCheck (RunsToday command) (refuse NotYet) (AfterStep (HasTextFault command.text) refuse (IsGraph command.text) (AsksCalls command))
+
+-- the words are a command
+abbrev pub Asks : List (List ℕ) → Result Request Stop → Type 0
+Asks words = AfterStep (IsWordFault words) refuse (IsCommand words) AsksCommand

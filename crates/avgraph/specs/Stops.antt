@@ -1,12 +1,20 @@
 -- What stops a run, by the call that failed, and how the counts of the host's faults rise with it.
 use Rattle.std.specs.Prelude.{◌≡◌, ℕ, Result, Err}
+use Rattle.av_base.specs.declared.failure.Failure.{Failure}
+use Rattle.av_base.specs.declared.failure.Failure.TheVariants as failure
+use Rattle.av_text.specs.declared.fault.TextFault.{TextFault as ReadFaultOfText}
 use Rattle.av_host.specs.World.{Faults}
 use Rattle.av_host.specs.Calls.{RaisesOpenings, RaisesReads, RaisesWrites}
 use Rattle.av_frame.specs.declared.refusals.OptionError.{OptionError}
 use Rattle.av_frame.specs.declared.refusals.OptionError.TheVariants as option
 use Rattle.av_frame.specs.declared.refusals.ConfigError.{ConfigError}
 use Rattle.av_frame.specs.declared.refusals.ConfigError.TheVariants as config
-use Rattle.av_faults.specs.declared.fault.Fault.TheVariants.{NotYet, UnknownFilter, UnknownOption, TooManyValues, BadValue, MissingOption, SizeMismatch, BadGeometry, TooLarge, TimeBaseRange, NoValue, OpenFault, ReadFault, WriteFault}
+use Rattle.graph_plan.specs.declared.plan.PlanFault.{PlanFault}
+use Rattle.graph_plan.specs.declared.plan.PlanFault.TheVariants as plan
+use Rattle.graph_plan.specs.Refusals.{most_links}
+use Rattle.av_faults.specs.declared.fault.Fault.{Fault}
+use Rattle.av_faults.specs.declared.fault.LimitKind.TheVariants.{Links}
+use Rattle.av_faults.specs.declared.fault.Fault.TheVariants.{NotYet, TextFault, UnknownFilter, UnknownOption, TooManyValues, BadValue, MissingOption, PadCount, LabelTwice, UnknownInput, MediaMismatch, Cycle, OpenPad, Unmapped, NoSuchOutput, WrongKind, Limit, SizeMismatch, BadGeometry, TooLarge, TimeBaseRange, NoValue, OpenFault, ReadFault, WriteFault}
 use Rattle.av_faults.specs.declared.fault.Stop.{Stop}
 use Rattle.av_faults.specs.declared.fault.Stop.TheVariants as stop
 
@@ -28,6 +36,33 @@ config_stop filter config.TimeBaseRange = stop.Fault (TimeBaseRange filter)
 config_stop filter (config.TooLarge found allowed) = stop.Fault (TooLarge filter found allowed)
 config_stop filter (config.NoValue k) = stop.Fault (NoValue filter k)
 config_stop filter config.NoMemory = stop.NoMemory
+
+-- the fault of the links or of the outputs
+abbrev pub plan_fault : PlanFault → Fault
+plan_fault plan.TooManyLinks = Limit Links 0 most_links
+plan_fault (plan.PadCount filter) = PadCount filter
+plan_fault (plan.LabelTwice filter) = LabelTwice filter
+plan_fault (plan.UnknownInput filter) = UnknownInput filter
+plan_fault (plan.MediaMismatch filter) = MediaMismatch filter
+plan_fault (plan.Cycle filter) = Cycle filter
+plan_fault (plan.OpenPad filter pad) = OpenPad filter pad
+plan_fault (plan.NoSuchOutput output) = NoSuchOutput output
+plan_fault (plan.Unmapped filter pad) = Unmapped filter pad
+plan_fault (plan.WrongKind output) = WrongKind output
+
+-- what stops the command if the filters can't be linked, or the outputs bound
+abbrev pub plan_stop : PlanFault → Stop
+plan_stop fault = stop.Fault (plan_fault fault)
+
+-- what stops the command if there is no draft or no plan
+abbrev pub plan_error_stop : Failure PlanFault → Stop
+plan_error_stop (failure.Fault fault) = plan_stop fault
+plan_error_stop failure.NoMemory = stop.NoMemory
+
+-- what stops it if the graph text can't be read
+abbrev pub text_stop : Failure ReadFaultOfText → Stop
+text_stop (failure.Fault fault) = stop.Fault (TextFault fault.at fault.kind)
+text_stop failure.NoMemory = stop.NoMemory
 
 -- each count rises exactly with its fault
 abbrev pub CountsStop : {T : Type 0} → Result T Stop → Faults → Faults → Type 0

@@ -3,8 +3,7 @@ ghost use Rattle.std.specs.Prelude.{◌≡◌, ℤ, pos, ◌+ℤ◌, ◌≤ℤ�
 ghost use Rattle.av_base.specs.declared.shapes.Shape.{Shape};
 ghost use Rattle.av_frame.specs.Frames.{FrameValue};
 ghost use Rattle.node_core.specs.Shaping.{ReadyValue};
-ghost use Rattle.graph_text.specs.declared.graph.FilterCall.{FilterCall};
-ghost use Rattle.avgraph.specs.Chains.{passed, AreReady, AreLinked, TakesFrom, AllTake};
+ghost use Rattle.avgraph.specs.Chains.{Step, passed, AreReady, AreLinked, TakesFrom, AllTake};
 
 use av_base::{NoMemory, Shape};
 use av_frame::{Filter, Frame, Given};
@@ -115,7 +114,7 @@ impl Chain {
         shape: Shape,
         end: Shape,
     ) -> Result<Chain, NoMemory>
-        requires ready { (calls : List FilterCall) × AreReady calls shape readies.items end }
+        requires ready { (path : List Step) × AreReady path shape readies.items end }
         ensures { IfOk result (λ c. c ≡ record { readies = readies.items; shape = shape; end = end; next = pos 0; spent = false }) }
     {
         let instances = start_all(alloc, &readies)?;

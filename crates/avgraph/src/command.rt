@@ -1,23 +1,23 @@
-//! The command on named files.
-ghost use Rattle.std.specs.Prelude.{◌≡◌, ◌≤◌, List, length};
-ghost use Rattle.std.specs.List.{AllZip};
-ghost use Rattle.graph_text.specs.declared.graph.FilterCall.{FilterCall};
-ghost use Rattle.node_core.specs.Kinds.{IsKind};
+//! A job on its files.
+ghost use Rattle.std.specs.Prelude.{◌≡◌, ◌≤◌, IfOk};
+ghost use Rattle.y4m_io.specs.Sizes.{longest_line};
 ghost use Rattle.y4m_io.specs.HeaderTexts.{IsWritable};
 ghost use Rattle.avgraph.specs.Commands.{Commands, Prepares, OpensFile, CreatesFile, stop_of_opening, stop_of_head};
 ghost use Rattle.avgraph.specs.Stops.{CountsStop};
+ghost use Rattle.avgraph.specs.Requests.{Request};
+ghost use Rattle.avgraph.specs.Jobs.{IsJob};
 ghost use Rattle.avgraph.specs.Bounds.{greatest_input};
-ghost use Rattle.avgraph.specs.Bounds.{most_filters};
 
 use crate::LIMIT;
 use crate::chain::Chain;
 use crate::ready::ready_chain;
+use crate::report::Counts;
+use crate::request::Job;
 use crate::run::{pass_all, stopped_writing};
 use av_base::{NoMemory, Shape};
 use av_faults::{Fault, Stop};
 use av_frame::{HeadError, Pools};
 use av_host::{Host, HostError};
-use node_core::Kind;
 use std::alloc::Global;
 use std::thread::Threads;
 use y4m_io::reader::Reader;
@@ -67,6 +67,7 @@ fn open<H: Host>(alloc: Global, host: &mut H, name: &str) -> Result<(Reader, Sha
 fn create<H: Host>(alloc: Global, host: &mut H, name: &str, shape: Shape) -> Result<Writer, Stop>
     requires { IsWritable shape }
     ensures creates { CreatesFile (H.world host.old) (H.world host.new) name.now shape result }
+    ensures short { IfOk result (λ writer. writer.bytes ≤ longest_line) }
     ensures faults { CountsStop result (H.world host.old).faults (H.world host.new).faults }
 {
     let id = match host.create(name) {
@@ -84,50 +85,41 @@ fn create<H: Host>(alloc: Global, host: &mut H, name: &str, shape: Shape) -> Res
 }
 
 /// Opens the input, reads its header, and makes the filters ready for its pictures.
-fn prepare<H: Host>(
-    alloc: Global,
-    host: &mut H,
-    kinds: &[Kind],
-    name: &str,
-) -> Result<(Reader, Chain), Stop>
-    requires few { length kinds.now ≤ most_filters }
-    requires named { (calls : List FilterCall) × AllZip IsKind calls kinds.now }
-    ensures prepares { (calls : List FilterCall) → AllZip IsKind calls kinds.now → Prepares greatest_input calls (H.world host.old) (H.world host.new) name.now result }
+fn prepare<H: Host>(alloc: Global, host: &mut H, job: &Job) -> Result<(Reader, Chain), Stop>
+    requires { (request : Request) × IsJob request job.now }
+    ensures prepares { (request : Request) → IsJob request job.now → Prepares greatest_input request.path (H.world host.old) (H.world host.new) request.input result }
     ensures faults { CountsStop result (H.world host.old).faults (H.world host.new).faults }
 {
-    let (reader, shape) = match open(alloc, host, name) {
+    let (reader, shape) = match open(alloc, host, job.input.as_str()) {
         Ok(opened) => opened,
         Err(stop) => return Err(stop),
     };
-    match ready_chain(alloc, kinds, shape) {
+    match ready_chain(alloc, job.kinds.as_slice(), job.order.as_slice(), shape) {
         Ok(chain) => Ok((reader, chain)),
         Err(stop) => Err(stop),
     }
 }
 
-/// Writes the input to the output, each frame as it comes out of the filters.
-pub(crate) fn run_command<R: Threads + Sync, H: Host>(
+/// Writes the input to the output, each frame as it comes out of the filters, and returns how much was read and written.
+pub(crate) fn run_job<R: Threads + Sync, H: Host>(
     rt: &R,
     alloc: Global,
     host: &mut H,
-    kinds: &[Kind],
-    input: &str,
-    output: &str,
-) -> Result<(), Stop>
-    requires few { length kinds.now ≤ most_filters }
-    requires named { (calls : List FilterCall) × AllZip IsKind calls kinds.now }
-    ensures commands { (calls : List FilterCall) → AllZip IsKind calls kinds.now → Commands greatest_input calls (H.world host.old) (H.world host.new) input.now output.now result }
+    job: &Job,
+) -> Result<Counts, Stop>
+    requires { (request : Request) × IsJob request job.now }
+    ensures commands { (request : Request) → IsJob request job.now → Commands greatest_input request (H.world host.old) (H.world host.new) result }
     ensures faults { CountsStop result (H.world host.old).faults (H.world host.new).faults }
 {
     let mut pools = match Pools::new(alloc) {
         Ok(pools) => pools,
         Err(NoMemory) => return Err(Stop::NoMemory),
     };
-    let (mut reader, mut chain) = match prepare(alloc, host, kinds, input) {
+    let (mut reader, mut chain) = match prepare(alloc, host, job) {
         Ok(prepared) => prepared,
         Err(stop) => return Err(stop),
     };
-    let mut writer = match create(alloc, host, output, chain.end()) {
+    let mut writer = match create(alloc, host, job.output.as_str(), chain.end()) {
         Ok(writer) => writer,
         Err(stop) => return Err(stop),
     };
@@ -140,7 +132,7 @@ pub(crate) fn run_command<R: Threads + Sync, H: Host>(
         &mut pools,
         &mut chain,
     ) {
-        Ok(()) => Ok(()),
+        Ok(counts) => Ok(counts),
         Err(stop) => Err(stop),
     }
 }

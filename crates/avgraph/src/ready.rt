@@ -1,19 +1,16 @@
-//! The filters of a chain, made ready for the pictures of an input.
-ghost use Rattle.std.specs.Prelude.{◌≡◌, ◌⊎◌, ◌≤◌, List, [], ◌∷◌, false, length, IsTrue, IfOk, IfErr};
-ghost use Rattle.std.specs.List.{AllZip, AllByRecursion};
+//! The filters of a path, made ready for the pictures of an input.
+ghost use Rattle.std.specs.Prelude.{◌≡◌, ◌⊎◌, List, [], ◌∷◌, false, IsTrue, IfOk, IfErr};
 ghost use Rattle.av_base.specs.Shapes.{IsPictureShape};
 ghost use Rattle.av_frame.specs.declared.refusals.ConfigError.TheVariants as config;
-ghost use Rattle.graph_text.specs.declared.graph.FilterCall.{FilterCall};
-ghost use Rattle.node_core.specs.Kinds.{IsKind};
 ghost use Rattle.node_core.specs.Shaping.{Takes, IsReady, IsConfigFault};
-ghost use Rattle.avgraph.specs.Chains.{AreReady};
-ghost use Rattle.avgraph.specs.Answers.{IsUnready, IsUntaken};
+ghost use Rattle.avgraph.specs.Chains.{Step, AreReady};
+ghost use Rattle.avgraph.specs.Answers.{AreTaking, IsUnready};
+ghost use Rattle.avgraph.specs.Jobs.{AreOfPath};
 ghost use Rattle.avgraph.specs.Commands.{IsChainFor, StopsShape};
 ghost use Rattle.avgraph.specs.Stops.{config_stop};
-ghost use Rattle.avgraph.specs.Bounds.{most_filters};
 
 use crate::chain::Chain;
-use av_base::{Format, List, NoMemory, Shape};
+use av_base::{Format, List, Shape};
 use av_faults::{Fault, Stop};
 use av_frame::ConfigError;
 use node_core::{Kind, Ready};
@@ -42,12 +39,13 @@ fn stopped_config(filter: u32, error: ConfigError) -> Stop
 }
 
 /// Whether every filter takes pictures of a format.
-fn all_take(kinds: &[Kind], format: Format) -> bool
-    ensures taking { IsTrue result → AllByRecursion (λ kind. Takes kind format) kinds.now }
-    ensures untaken { (calls : List FilterCall) → AllZip IsKind calls kinds.now → result ≡ false → IsUntaken calls format }
+fn all_take(kinds: &[Kind], order: &[u32], format: Format) -> bool
+    requires { (path : List Step) × AreOfPath kinds.now order.now path }
+    ensures taking { (path : List Step) → AreOfPath kinds.now order.now path → IsTrue result → AreTaking path format }
+    ensures untaken { (path : List Step) → AreOfPath kinds.now order.now path → result ≡ false → ¬ AreTaking path format }
 {
-    for kind in kinds {
-        if !kind.takes(format) {
+    for filter in order {
+        if !kinds[*filter as usize].takes(format) {
             return false;
         }
     }
@@ -66,58 +64,58 @@ fn make_ready(alloc: Global, kind: &Kind, shape: Shape) -> Result<Ready, ConfigE
     kind.configure(alloc, &ins, &chosen)
 }
 
-/// What is made ready of a chain: its filters, and the shape that the last one gives.
+/// What is made ready of a path: its filters, and the shape that the last one gives.
 #[derive(Drop)]
-struct Readied {
+struct ReadiedPath {
     readies: Vec<Ready>,
     end: Shape,
 }
 
 /// Makes the filters ready one after the other, the first for pictures of a shape.
-fn make_all_ready(alloc: Global, kinds: &[Kind], shape: Shape) -> Result<Readied, Stop>
+fn make_all_ready(
+    alloc: Global,
+    kinds: &[Kind],
+    order: &[u32],
+    shape: Shape,
+) -> Result<ReadiedPath, Stop>
     requires picture { IsPictureShape shape }
-    requires few { length kinds.now ≤ most_filters }
-    requires taking { AllByRecursion (λ kind. Takes kind shape.format) kinds.now }
-    ensures ready { (calls : List FilterCall) → AllZip IsKind calls kinds.now → IfOk result (λ r. AreReady calls shape r.readies.items r.end) }
-    ensures stop { (calls : List FilterCall) → AllZip IsKind calls kinds.now → IfErr result (λ stop. (stop ≡ Stop.NoMemory) ⊎ IsUnready 0 calls shape stop) }
+    requires taking { (path : List Step) × AreOfPath kinds.now order.now path × AreTaking path shape.format }
+    ensures ready { (path : List Step) → AreOfPath kinds.now order.now path → IfOk result (λ r. AreReady path shape r.readies.items r.end) }
+    ensures stop { (path : List Step) → AreOfPath kinds.now order.now path → IfErr result (λ stop. (stop ≡ Stop.NoMemory) ⊎ IsUnready path shape stop) }
 {
     let mut readies = Vec::new(alloc);
     let mut end = shape;
-    for (filter, kind) in kinds.iter().enumerate() {
-        let ready = match make_ready(alloc, kind, end) {
+    for filter in order {
+        let ready = match make_ready(alloc, &kinds[*filter as usize], end) {
             Ok(ready) => ready,
-            Err(error) => return Err(stopped_config(filter as u32, error)),
+            Err(error) => return Err(stopped_config(*filter, error)),
         };
         end = ready.outs().as_slice()[0];
-        match readies.push(ready) {
-            Ok(()) => {}
-            Err(_) => return Err(Stop::NoMemory),
-        }
+        readies.push(ready)?;
     }
-    Ok(Readied { readies, end })
+    Ok(ReadiedPath { readies, end })
 }
 
-/// The chain of filters, ready for pictures of a shape.
+/// The chain of the filters of a path, ready for pictures of a shape. `order` has the numbers of the path's filters.
 ///
 /// # Errors
 /// `NoCommonFormat` if a filter doesn't take pictures of the shape's format; else the fault of the first filter
 /// that can't be made ready. Out of memory.
-pub(crate) fn ready_chain(alloc: Global, kinds: &[Kind], shape: Shape) -> Result<Chain, Stop>
+pub(crate) fn ready_chain(
+    alloc: Global,
+    kinds: &[Kind],
+    order: &[u32],
+    shape: Shape,
+) -> Result<Chain, Stop>
     requires picture { IsPictureShape shape }
-    requires few { length kinds.now ≤ most_filters }
-    requires named { (calls : List FilterCall) × AllZip IsKind calls kinds.now }
-    ensures ready { (calls : List FilterCall) → AllZip IsKind calls kinds.now → IfOk result (IsChainFor calls shape) }
-    ensures stop { (calls : List FilterCall) → AllZip IsKind calls kinds.now → IfErr result (StopsShape calls shape) }
+    requires path { (path : List Step) × AreOfPath kinds.now order.now path }
+    ensures ready { (path : List Step) → AreOfPath kinds.now order.now path → IfOk result (IsChainFor path shape) }
+    ensures stop { (path : List Step) → AreOfPath kinds.now order.now path → IfErr result (StopsShape path shape) }
 {
-    if !all_take(kinds, shape.format) {
+    if !all_take(kinds, order, shape.format) {
         return Err(Stop::Fault(Fault::NoCommonFormat { link: 0 }));
     }
-    let readied = match make_all_ready(alloc, kinds, shape) {
-        Ok(readied) => readied,
-        Err(stop) => return Err(stop),
-    };
-    match Chain::new(alloc, readied.readies, shape, readied.end) {
-        Ok(chain) => Ok(chain),
-        Err(NoMemory) => Err(Stop::NoMemory),
-    }
+    let readied = make_all_ready(alloc, kinds, order, shape)?;
+    let chain = Chain::new(alloc, readied.readies, shape, readied.end)?;
+    Ok(chain)
 }

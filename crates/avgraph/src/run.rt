@@ -1,11 +1,14 @@
 //! The loop from an input to an output.
-ghost use Rattle.std.specs.Prelude.{◌≡◌, pos, false, IsTrue, IsSome};
+ghost use Rattle.std.specs.Prelude.{◌≡◌, ◌≤◌, pos, false, IsTrue, IsSome};
 ghost use Rattle.avgraph.specs.Running.{Runs, stop_of_next, stop_of_write};
 ghost use Rattle.avgraph.specs.Stops.{CountsStop};
+ghost use Rattle.avgraph.specs.Bounds.{greatest_input};
+ghost use Rattle.y4m_io.specs.Sizes.{longest_line};
 ghost use Rattle.y4m_io.specs.declared.y4m_state.Stage.{Stage};
 ghost use Rattle.y4m_io.specs.declared.y4m_state.Progress.{Progress};
 
 use crate::chain::Chain;
+use crate::report::Counts;
 use av_base::NoMemory;
 use av_faults::{Fault, Stop};
 use av_frame::{NextError, Pools, WriteError};
@@ -38,7 +41,8 @@ pub(crate) fn stopped_writing(error: WriteError) -> Stop
     }
 }
 
-/// Writes each frame that is left of the input as it comes out of the filters.
+/// Writes each frame that is left of the input as it comes out of the filters, and returns how much was read and
+/// written.
 pub(crate) fn pass_all<R: Threads + Sync, H: Host>(
     rt: &R,
     alloc: Global,
@@ -47,11 +51,13 @@ pub(crate) fn pass_all<R: Threads + Sync, H: Host>(
     writer: &mut Writer,
     pools: &mut Pools,
     chain: &mut Chain,
-) -> Result<(), Stop>
+) -> Result<Counts, Stop>
     requires input { IsTrue ((H.world host.old).inputs.is_open reader.old.id) }
     requires output { IsSome ((H.world host.old).outputs.name writer.old.id) }
     requires headed { reader.old.stage ≡ Stage.Headed chain.old.shape }
     requires first { reader.old.frames ≡ 0 }
+    requires within { reader.old.room ≤ greatest_input }
+    requires short { writer.old.bytes ≤ longest_line }
     requires started { writer.old.progress ≡ Progress.Started }
     requires end { writer.old.shape ≡ chain.old.end }
     requires next { chain.old.next ≡ pos 0 }
@@ -75,7 +81,10 @@ pub(crate) fn pass_all<R: Threads + Sync, H: Host>(
         }
     }
     match writer.finish(alloc, host) {
-        Ok(()) => Ok(()),
+        Ok(()) => Ok(Counts {
+            frames: reader.frames(),
+            bytes: writer.bytes(),
+        }),
         Err(error) => Err(stopped_writing(error)),
     }
 }

@@ -1,23 +1,24 @@
 -- What is shown of crop: that its outcome is exactly one, and that the part that is kept lies in the picture.
-use Rattle.std.specs.Prelude.{◌≡◌, ◌<◌, ◌≤◌, ◌+◌, ◌-◌, false, ℕ, ℤ, pos, unsigned_abs, List, Ok, codes, refl}
-use Rattle.std.proofs.Common.{sym, ap, arith}
+use Rattle.std.specs.Prelude.{◌≡◌, ◌<◌, ◌≤◌, ◌+◌, ◌-◌, false, ℕ, ℤ, pos, unsigned_abs, List, Ok, Err, codes, refl}
+use Rattle.std.proofs.Common.{inl, sym, ap, arith}
 use Rattle.std.proofs.lemmas.Int.{ints}
 use Rattle.av_base.specs.Shapes.{width_of, height_of, IsPictured}
 use Rattle.av_base.specs.declared.shapes.Shape.{Shape}
 use Rattle.av_text.specs.declared.arguments.Arg.{Arg}
-use Rattle.av_filter.specs.Limits.{IsSmall, after_limits}
+use Rattle.av_filter.specs.Limits.{IsSmall, after_limits, limits_passed}
 use Rattle.av_filter.specs.Meanings.{IsSettled, IsReading, HasOneReading, HasOneOutcome, MakingLaws, ReadingLaws, MeaningLaws}
 use Rattle.av_filter.specs.Forms.{EachLaws, BuildLaws, forms_laws, word_laws, only_laws}
 use Rattle.av_filter.specs.Options.{flags}
 use Rattle.av_filter.specs.OptionExistence.{AreNumbered}
 use Rattle.av_filter.specs.Outcomes.{HasOne, ends_one, after_sizes, passed, passed_fault, same_ok}
 use Rattle.av_frame.specs.Pictures.{painted_keeps}
+use Rattle.av_frame.specs.declared.refusals.ConfigError.TheVariants.{NoMemory}
 use Rattle.av_filter.specs.Readings.{complete_law, given_of}
 use Rattle.av_filter.specs.WordLaws.{word_below}
 use Rattle.filt_expr.specs.Geometry.{on_grid, within, resized, sizes}
 use Rattle.filt_expr.specs.Crop.{crop_names, crop_forms, crop_rules, crop_making, grid_across, grid_down, crop_checks, crop_settings, crop_outcome, cropped, crop}
 use Rattle.filt_expr.specs.Rounding.{FitsIn}
-use Rattle.filt_expr.specs.RoundingLaws.{after_rounded, after_fit, fitting_size}
+use Rattle.filt_expr.specs.RoundingLaws.{passed_value, passed_check, after_rounded, after_fit, fitting_size}
 use Rattle.filt_expr.specs.Defaults.{says_iw, says_ih, says_middle_x, says_middle_y}
 use Rattle.filt_expr.specs.ExprForms.{expr_laws, means_lowest}
 use Rattle.filt_expr.specs.Sizes.{place_fits, place_some, resized_pictured, resized_stream}
@@ -75,6 +76,18 @@ crop_one_outcome args o s reads picture takes =
     after_rounded o.y (sizes s w h) 1 3 _ (sizes_each_lowest s w h) (means_lowest ((has 3 (omega arith)).2.1.1.1.0 refl)) (λ y.
     checks_one o s w h x y))))
 
+crop_memory : (o : CropOptions) (s : Shape) → ¬ crop_outcome o s (Err NoMemory)
+unfolding crop_outcome
+crop_memory o s outcome =
+    let w = passed_value outcome in
+    let h = passed_value w.2 in
+    let x = passed_value h.2 in
+    let y = passed_value x.2 in
+    let wide = passed_check y.2 in
+    let high = passed_check wide.1 in
+    let end = (limits_passed high.1.4).1 in
+    cc
+
 -- ---- the part that is kept
 
 -- the part lies in the picture, and is one within the limits
@@ -124,7 +137,7 @@ crop_pictured t s h =
 -- ---- the laws
 
 pub crop_making_laws : MakingLaws crop_making
-crop_making_laws = record { pictured = crop_pictured; stream = λ t. resized_stream t.width t.height; keeps = λ t x. painted_keeps (cropped t.x t.y) (resized t.width t.height x.shape) x; shaped = λ t x. refl }
+crop_making_laws = record { decided = λ o f. inl tt; no_memory = crop_memory; pictured = crop_pictured; stream = λ t. resized_stream t.width t.height; keeps = λ t x. painted_keeps (cropped t.x t.y) (resized t.width t.height x.shape) x; shaped = λ t x. refl }
 
 pub crop_reading_laws : ReadingLaws crop_making crop_rules
 crop_reading_laws = record { one_reading = crop_one_reading; one_outcome = crop_one_outcome }

@@ -17,17 +17,17 @@ use Rattle.av_expr.specs.declared.vars.Var.{Var}
 use Rattle.av_expr.specs.declared.vars.Var.TheVariants.{Val, MinVal, MaxVal, NegVal}
 use Rattle.av_expr.specs.declared.fraction.Fraction.{Fraction}
 use Rattle.av_frame.specs.Frames.{FrameValue}
-use Rattle.av_filter.specs.Limits.{IsSmall, after_limits}
+use Rattle.av_filter.specs.Limits.{IsSmall, after_limits, limits_passed}
 use Rattle.av_filter.specs.Meanings.{HasOneOutcome, HasOneReading, IsReading, IsSettled, MakingLaws, MeaningLaws, ReadingLaws, is_of_stream}
 use Rattle.av_filter.specs.Forms.{FormLaws, BuildLaws, forms_laws}
 use Rattle.av_filter.specs.OptionExistence.{AreNumbered}
-use Rattle.av_filter.specs.Outcomes.{IsOne, HasOne, after_fault}
+use Rattle.av_filter.specs.Outcomes.{IsOne, HasOne, after_fault, passed_others}
 use Rattle.av_frame.specs.Pictures.{repainted_keeps}
 use Rattle.av_filter.specs.Readings.{complete_law, given_of}
 use Rattle.av_frame.specs.Rules.{SameTimes}
 use Rattle.av_filter.specs.WordLaws.{word_below}
 use Rattle.av_frame.specs.declared.refusals.ConfigError.{ConfigError}
-use Rattle.av_frame.specs.declared.refusals.ConfigError.TheVariants.{NoValue}
+use Rattle.av_frame.specs.declared.refusals.ConfigError.TheVariants.{NoMemory, NoValue}
 use Rattle.filt_expr.specs.Defaults.{says_val}
 use Rattle.filt_expr.specs.ExprForms.{expr_laws, means_lowest}
 use Rattle.filt_expr.specs.Lutyuv.{lutyuv_names, expression_for, lutyuv_forms, looked_up, least_of, most_of, negated_in, at_sample, IsEntry, IsTable, HasNoEntry, HasTable, IsFirstWithout, IsTables, lutyuv_outcome, lutyuv_rules, lutyuv_making, lutyuv}
@@ -223,6 +223,13 @@ outcome_one o s low =
 lutyuv_one_outcome : (args : List Arg) → HasOneOutcome lutyuv_making (IsReading lutyuv_rules args)
 lutyuv_one_outcome args o s reads picture takes = outcome_one o s (are_lowest o args reads)
 
+lutyuv_memory : (o : LutyuvOptions) (s : Shape) → ¬ lutyuv_outcome o s (Err NoMemory)
+unfolding lutyuv_outcome
+lutyuv_memory o s outcome =
+    let tables = passed_others (λ (plane : ℕ) first is. cc) outcome in
+    let end = (limits_passed tables.1).1.2 in
+    cc
+
 -- ---- the picture
 
 small_outcome : (o : LutyuvOptions) (s : Shape) (t : LutyuvSettings) → lutyuv_outcome o s (Ok t) → IsSmall s (width_of s.props) (height_of s.props)
@@ -245,7 +252,7 @@ lutyuv_shaped t x = refl
 -- ---- the laws
 
 pub lutyuv_making_laws : MakingLaws lutyuv_making
-lutyuv_making_laws = record { pictured = lutyuv_pictured; stream = λ t. is_of_stream; keeps = lutyuv_keeps; shaped = lutyuv_shaped }
+lutyuv_making_laws = record { decided = λ o f. inl tt; no_memory = lutyuv_memory; pictured = lutyuv_pictured; stream = λ t. is_of_stream; keeps = lutyuv_keeps; shaped = lutyuv_shaped }
 
 pub lutyuv_reading_laws : ReadingLaws lutyuv_making lutyuv_rules
 lutyuv_reading_laws = record { one_reading = lutyuv_one_reading; one_outcome = lutyuv_one_outcome }

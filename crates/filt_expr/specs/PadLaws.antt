@@ -11,7 +11,7 @@ use Rattle.av_expr.specs.Trees.{Tree, HasLowest}
 use Rattle.av_expr.specs.declared.vars.Var.{Var}
 use Rattle.av_expr.specs.declared.fraction.Fraction.{Fraction}
 use Rattle.av_frame.specs.Grid.{step_across, step_down}
-use Rattle.av_filter.specs.Limits.{IsSmall, after_limits}
+use Rattle.av_filter.specs.Limits.{IsSmall, after_limits, limits_passed}
 use Rattle.av_filter.specs.Meanings.{HasOneOutcome, HasOneReading, IsReading, IsSettled, MakingLaws, MeaningLaws, ReadingLaws}
 use Rattle.av_filter.specs.Forms.{EachLaws, BuildLaws, forms_laws}
 use Rattle.av_filter.specs.OptionExistence.{AreNumbered}
@@ -20,7 +20,7 @@ use Rattle.av_frame.specs.Pictures.{painted_keeps}
 use Rattle.av_filter.specs.Readings.{complete_law, given_of}
 use Rattle.av_filter.specs.WordLaws.{word_below}
 use Rattle.av_frame.specs.declared.refusals.ConfigError.{ConfigError}
-use Rattle.av_frame.specs.declared.refusals.ConfigError.TheVariants.{NoValue}
+use Rattle.av_frame.specs.declared.refusals.ConfigError.TheVariants.{NoMemory, NoValue}
 use Rattle.filt_expr.specs.Defaults.{says_iw, says_ih, says_zero}
 use Rattle.filt_expr.specs.Geometry.{on_grid, resized, sizes}
 use Rattle.filt_expr.specs.ExprForms.{expr_laws, means_lowest}
@@ -33,7 +33,7 @@ use Rattle.filt_expr.specs.Worth.{IsWorthless}
 use Rattle.filt_expr.specs.declared.worth.Role.TheVariants.{Width, Height, Place}
 use Rattle.filt_expr.specs.declared.pad.PadOptions.{PadOptions}
 use Rattle.filt_expr.specs.declared.pad.PadSettings.{PadSettings}
-use Rattle.filt_expr.specs.RoundingLaws.{cut_value_one, cut_value_apart, cut_value_some, after_cut}
+use Rattle.filt_expr.specs.RoundingLaws.{passed_value, passed_check, cut_value_one, cut_value_apart, cut_value_some, after_cut}
 
 -- ---- options
 
@@ -116,6 +116,20 @@ pad_one_outcome args o s reads picture takes =
     after_cut o.y (sizes s w h) 3 _ (sizes_each_lowest s w h) (means_lowest ((has 3 (omega arith)).2.1.1.1.0 refl)) (λ y.
     checks_one o s w h x y))))
 
+pad_memory : (o : PadOptions) (s : Shape) → ¬ pad_outcome o s (Err NoMemory)
+unfolding pad_outcome
+pad_memory o s outcome =
+    let w = passed_value outcome in
+    let h = passed_value w.2 in
+    let x = passed_value h.2 in
+    let y = passed_value x.2 in
+    let wide = passed_check y.2 in
+    let high = passed_check wide.1 in
+    let column = passed_check high.1 in
+    let row = passed_check column.1 in
+    let end = (limits_passed row.1.4).1 in
+    cc
+
 -- ---- the area
 
 -- a place of the input
@@ -180,7 +194,7 @@ pad_pictured t s h =
 -- ---- the laws
 
 pub pad_making_laws : MakingLaws pad_making
-pad_making_laws = record { pictured = pad_pictured; stream = λ t. resized_stream t.width t.height; keeps = λ t x. painted_keeps (padded t.x t.y t.color) (resized t.width t.height x.shape) x; shaped = λ t x. refl }
+pad_making_laws = record { decided = λ o f. inl tt; no_memory = pad_memory; pictured = pad_pictured; stream = λ t. resized_stream t.width t.height; keeps = λ t x. painted_keeps (padded t.x t.y t.color) (resized t.width t.height x.shape) x; shaped = λ t x. refl }
 
 pub pad_reading_laws : ReadingLaws pad_making pad_rules
 pad_reading_laws = record { one_reading = pad_one_reading; one_outcome = pad_one_outcome }

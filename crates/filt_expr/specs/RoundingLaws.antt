@@ -6,9 +6,9 @@ use Rattle.av_expr.specs.Fractions.{IsLowest}
 use Rattle.av_expr.specs.Trees.{Tree, HasLowest}
 use Rattle.av_expr.specs.declared.vars.Var.{Var}
 use Rattle.av_expr.specs.declared.fraction.Fraction.{Fraction}
-use Rattle.av_filter.specs.Outcomes.{IsOne, HasOne, after_value, after_check}
+use Rattle.av_filter.specs.Outcomes.{IsOne, HasOne, after_value, after_check, passed_other}
 use Rattle.av_frame.specs.declared.refusals.ConfigError.{ConfigError}
-use Rattle.av_frame.specs.declared.refusals.ConfigError.TheVariants.{NoValue}
+use Rattle.av_frame.specs.declared.refusals.ConfigError.TheVariants.{BadGeometry, NoMemory, NoValue}
 use Rattle.filt_expr.specs.Worth.{IsWorthless}
 use Rattle.filt_expr.specs.Geometry.{on_grid}
 use Rattle.filt_expr.specs.Rounding.{IsRounded, FitsIn, AfterRounded, AfterFit, IsCutValue, AfterCut}
@@ -16,6 +16,16 @@ use Rattle.filt_expr.specs.Sizes.{natural_some}
 use Rattle.av_filter.specs.Texts.{at_most_decided, both_decided}
 use Rattle.av_filter.specs.Decisions.{IsDecided}
 use Rattle.filt_expr.specs.Values.{listed_lowest, worth_some, worth_apart, nearest_some, worth_nearest, worth_cut, cut_some}
+
+-- ---- steps are passed where the outcome is out of memory
+
+pub passed_value : {R A B : Type 0} {option : ℕ} → (A × ◌≡◌ {A = Result R ConfigError} (Err NoMemory) (Err (NoValue option))) ⊎ B → B
+passed_value outcome = passed_other (λ is. cc) outcome
+
+pub passed_check : {R A B : Type 0} {found allowed : ℤ} → (A × ◌≡◌ {A = Result R ConfigError} (Err NoMemory) (Err (BadGeometry found allowed))) ⊎ B → B
+passed_check outcome = passed_other (λ is. cc) outcome
+
+-- ---- outcomes
 
 module _ (tree : Tree) (variables : Var → Fraction) (step : ℕ) (all : (x : Var) → IsLowest (variables x)) (lowest : HasLowest tree) where
   -- an expression is rounded to one number

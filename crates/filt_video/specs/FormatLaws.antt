@@ -1,6 +1,8 @@
 -- What is shown of format: arguments have exactly one reading, always, and its outcome is exactly one.
 use Rattle.std.specs.Prelude.{◌≡◌, ◌*◌, ◌%◌, ◌^◌, ◌⊎◌, bit_or, ℕ, zero, suc, List, [], ◌∷◌, Option, Some, None, Result, Ok, Err, Contains, refl}
+use Rattle.std.specs.Int.{bit_at}
 use Rattle.std.proofs.Common.{inl, inr, ◌∙◌, sym, ap, subst, arith}
+use Rattle.std.proofs.lemmas.Bool.{cases_eq}
 use Rattle.std.proofs.lemmas.Option.{same_Some}
 use Rattle.av_base.proofs.FormatSetLemmas.{in_none, in_more}
 use Rattle.av_base.specs.FormatSets.{place_of, Has}
@@ -12,11 +14,11 @@ use Rattle.av_base.specs.declared.sets.FormatSet.{FormatSet}
 use Rattle.av_base.specs.declared.shapes.Shape.{Shape}
 use Rattle.av_text.specs.declared.arguments.Arg.{Arg}
 use Rattle.av_frame.specs.Frames.{FrameValue}
-use Rattle.av_filter.specs.Limits.{after_limits}
+use Rattle.av_filter.specs.Limits.{after_limits, limits_passed}
 use Rattle.av_filter.specs.Meanings.{Follows, HasOneOutcome, HasOneReading, IsReading, IsSettled, MakingLaws, MeaningLaws, ReadingLaws, is_of_stream}
 use Rattle.av_filter.specs.Options.{HasGiven, AreTaken, IsFirstFault, IsGiven}
 use Rattle.av_filter.specs.OptionExistence.{AreDecided, AreNumbered, given_some, given_taken, taken_or_refused}
-use Rattle.av_filter.specs.OptionLaws.{one_first, none_first}
+use Rattle.av_filter.specs.OptionLaws.{one_first, none_first, first_memory}
 use Rattle.av_filter.specs.Outcomes.{HasOne, ends_one}
 use Rattle.av_filter.specs.Readings.{both_have}
 use Rattle.av_frame.specs.Rules.{SameTimes}
@@ -24,6 +26,8 @@ use Rattle.av_filter.specs.Words.{word_in}
 use Rattle.av_filter.specs.WordLaws.{word_below}
 use Rattle.av_frame.specs.declared.refusals.OptionError.{OptionError}
 use Rattle.av_frame.specs.declared.refusals.OptionError.TheVariants.{MissingOption}
+use Rattle.av_frame.specs.declared.refusals.OptionError.TheVariants as option
+use Rattle.av_frame.specs.declared.refusals.ConfigError.TheVariants.{NoMemory}
 use Rattle.filt_video.specs.Formats.{format_words, parts_of, IsNamed, AreFormats, IsFormatList, format_names, format_takes, formats_are, FormatHas, completed, format_rules, IsListed, format_outcome, format_making, format_filter}
 use Rattle.av_filter.specs.Decisions.{IsDecided, word_or_none}
 use Rattle.filt_video.specs.declared.format.FormatOptions.{FormatOptions}
@@ -84,6 +88,12 @@ formats_decided text = elim (formats_or (parts_of text)) [
   | inl set ↦ inl set
   | inr lacks ↦ inr (λ h. lacks h.1.each)
 ]
+
+-- a list has a format, or it doesn't
+listed_decided : (given : Option FormatSet) (f : Format) → IsDecided (IsListed given f)
+unfolding Has
+listed_decided None f = inr (λ none. none)
+listed_decided (Some set) f = cases_eq (bit_at set.bits (place_of f)) 1
 
 -- a text says the members of a set
 list_one : (text : List ℕ) (a b : FormatSet) → IsFormatList text a → IsFormatList text b → (f : Format) → Has a f → Has b f
@@ -170,8 +180,12 @@ module _ (args : List Arg) where
   fault e f (inr x) (inl y) = absurd (none_first x.0 y.1)
   fault e f (inr x) (inr y) = (completed_err x.1.0 e x.1.0.pix_fmts x.1.2).0 ∙ sym (completed_err y.1.0 f y.1.0.pix_fmts y.1.2).0
 
+  memory : ¬ IsReading format_rules args (Err option.NoMemory)
+  memory (inl x) = first_memory x.1 (is_err x.2)
+  memory (inr x) = let no = (completed_err x.1.0 option.NoMemory x.1.0.pix_fmts x.1.2).0 in cc
+
   format_one_reading : HasOneReading format_making (IsReading format_rules args)
-  format_one_reading = record { some = read_some (taken_or_refused format_decided format_numbers); follows = follows; not_both = apart; one_fault = fault }
+  format_one_reading = record { some = read_some (taken_or_refused format_decided format_numbers); follows = follows; not_both = apart; one_fault = fault; no_memory = memory }
 
 -- ---- settings
 
@@ -181,6 +195,10 @@ outcome_one s = after_limits s (width_of s.props) (height_of s.props) _ (λ smal
 
 format_one_outcome : (args : List Arg) → HasOneOutcome format_making (IsReading format_rules args)
 format_one_outcome args o s reads picture takes = outcome_one s
+
+format_memory : (s : Shape) → ¬ format_outcome s (Err NoMemory)
+unfolding format_outcome
+format_memory s outcome = let end = (limits_passed outcome).1 in cc
 
 pictured_end : (t : FormatRule) (s : Shape) → IsPictureShape s → format_outcome s (Ok t) → IsPictured s
 unfolding format_outcome
@@ -199,7 +217,7 @@ format_shaped t x = refl
 -- ---- the laws
 
 pub format_making_laws : MakingLaws format_making
-format_making_laws = record { pictured = format_pictured; stream = λ t. is_of_stream; keeps = format_keeps; shaped = format_shaped }
+format_making_laws = record { decided = λ o. listed_decided o.pix_fmts; no_memory = λ o. format_memory; pictured = format_pictured; stream = λ t. is_of_stream; keeps = format_keeps; shaped = format_shaped }
 
 pub format_reading_laws : ReadingLaws format_making format_rules
 format_reading_laws = record { one_reading = format_one_reading; one_outcome = format_one_outcome }

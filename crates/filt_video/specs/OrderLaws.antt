@@ -1,5 +1,5 @@
 -- What is shown of shuffleplanes: its outcome is exactly one, and each sample that it reads is there.
-use Rattle.std.specs.Prelude.{◌≡◌, ◌<◌, ◌≤◌, ◌⊎◌, ℕ, ℤ, pos, negsuc, List, [], ◌∷◌, Option, Some, None, IfSome, Ok, Err, length, get_or, slice_index, refl}
+use Rattle.std.specs.Prelude.{◌≡◌, ◌≢◌, ◌<◌, ◌≤◌, ◌⊎◌, ℕ, ℤ, pos, negsuc, List, [], ◌∷◌, Option, Some, None, IfSome, Ok, Err, length, get_or, slice_index, refl}
 use Rattle.std.proofs.Common.{inl, inr, ◌∙◌, sym, ap, subst, arith}
 use Rattle.std.proofs.lemmas.Bool.{cases_lt, cases_eq}
 use Rattle.std.proofs.lemmas.Int.{ints}
@@ -11,16 +11,17 @@ use Rattle.av_base.specs.Shapes.{planes_of, columns_of, rows_of, width_of, heigh
 use Rattle.av_base.specs.declared.shapes.Shape.{Shape}
 use Rattle.av_text.specs.declared.arguments.Arg.{Arg}
 use Rattle.av_frame.specs.Frames.{FrameValue}
-use Rattle.av_filter.specs.Limits.{after_limits}
+use Rattle.av_filter.specs.Limits.{after_limits, limits_passed}
 use Rattle.av_filter.specs.Meanings.{HasOneOutcome, HasOneReading, IsReading, IsSettled, MakingLaws, MeaningLaws, ReadingLaws, is_of_stream}
 use Rattle.av_filter.specs.Options.{IsWholeWithin}
 use Rattle.av_filter.specs.OptionExistence.{AreDecided, AreNumbered}
-use Rattle.av_filter.specs.Outcomes.{IsOne, HasOne, ends_one, after_fault}
+use Rattle.av_filter.specs.Outcomes.{IsOne, HasOne, ends_one, after_fault, passed_others}
 use Rattle.av_frame.specs.Pictures.{repainted_keeps}
 use Rattle.av_filter.specs.Readings.{OptionLaws, BothHave, complete_law}
 use Rattle.av_frame.specs.Rules.{SameTimes}
 use Rattle.av_filter.specs.WordLaws.{word_below}
 use Rattle.av_frame.specs.declared.refusals.ConfigError.{ConfigError}
+use Rattle.av_frame.specs.declared.refusals.ConfigError.TheVariants.{NoMemory}
 use Rattle.av_filter.specs.Places.{HasPlace}
 use Rattle.filt_video.specs.Shuffleplanes.{order_names, order_takes, order_has, OrderHas, order_rules, shuffled, AreSameSize, HasOrderFault, IsOrderRefused, IsFilled, IsOrder, order_outcome, order_making, shuffleplanes}
 use Rattle.av_filter.specs.Texts.{within_decided, within_one, both_decided}
@@ -138,6 +139,18 @@ outcome_one o s =
 order_one_outcome : (args : List Arg) → HasOneOutcome order_making (IsReading order_rules args)
 order_one_outcome args o s reads picture takes = outcome_one o s
 
+-- out of memory is no fault of an order
+fault_memory : {s : Shape} {maps : List ℕ} {p : ℕ} {e : ConfigError} → HasOrderFault s maps p e → NoMemory ≢ e
+fault_memory (HasOrderFault.NoPlane past) is = cc
+fault_memory (HasOrderFault.OtherSize low other) is = cc
+
+order_memory : (o : PlaneOrder) (s : Shape) → ¬ order_outcome o s (Err NoMemory)
+unfolding order_outcome
+order_memory o s outcome =
+    let order = passed_others (λ (e : ConfigError) (refused : IsOrderRefused s o.maps e). fault_memory refused.has) outcome in
+    let end = (limits_passed order.1).1 in
+    cc
+
 -- ---- what is made
 
 -- the order suits pictures of the shape, which are within the limits
@@ -188,7 +201,7 @@ order_fits t x h p r c plane row column =
 -- ---- the laws
 
 pub order_making_laws : MakingLaws order_making
-order_making_laws = record { pictured = order_pictured; stream = λ t. is_of_stream; keeps = order_keeps; shaped = order_shaped }
+order_making_laws = record { decided = λ o f. inl tt; no_memory = order_memory; pictured = order_pictured; stream = λ t. is_of_stream; keeps = order_keeps; shaped = order_shaped }
 
 pub order_reading_laws : ReadingLaws order_making order_rules
 order_reading_laws = record { one_reading = order_one_reading; one_outcome = order_one_outcome }

@@ -1,11 +1,15 @@
 -- What is shown of transpose: its outcome is exactly one, and turned shapes are lawful.
-use Rattle.std.specs.Prelude.{◌≡◌, ◌<◌, Bool, true, false, nat_eq, if◌then◌else◌, ℕ, zero, suc, List, Option, Some, None, IfSome, Ok, refl}
-use Rattle.std.proofs.Common.{inl, inr, ◌∙◌, sym, subst, arith}
+use Rattle.std.specs.Prelude.{◌≡◌, ◌<◌, Bool, true, false, nat_eq, if◌then◌else◌, ℕ, zero, suc, List, Option, Some, None, IfSome, Ok, Err, refl}
+use Rattle.std.proofs.Common.{inl, inr, ◌∙◌, sym, ap, subst, arith}
+use Rattle.std.proofs.lemmas.Bool.{cases_eq}
 use Rattle.std.proofs.lemmas.Bool.Decides.{nat_tests}
 use Rattle.std.proofs.lemmas.Nat.Gcd.{IsGcd-swap}
+use Rattle.av_base.proofs.FormatSetLemmas.{same_place}
+use Rattle.av_base.specs.FormatSets.{place_of}
 use Rattle.av_base.specs.Numbers.{IsRatio}
 use Rattle.av_base.specs.Shapes.{IsLawful, IsPictureShape, IsPictured}
 use Rattle.av_base.specs.declared.numbers.Ratio.{Ratio}
+use Rattle.av_base.specs.declared.formats.PixelFormat.TheVariants.{Yuv422p, Yuva422p}
 use Rattle.av_base.specs.declared.formats.Format.{Format}
 use Rattle.av_base.specs.declared.formats.Format.TheVariants as format
 use Rattle.av_base.specs.declared.shapes.Shape.{Shape}
@@ -13,16 +17,17 @@ use Rattle.av_base.specs.declared.shapes.Props.{Props}
 use Rattle.av_base.specs.declared.shapes.Props.TheVariants as props
 use Rattle.av_text.specs.declared.arguments.Arg.{Arg}
 use Rattle.av_frame.specs.Frames.{FrameValue}
-use Rattle.av_filter.specs.Limits.{after_limits}
+use Rattle.av_filter.specs.Limits.{after_limits, limits_passed}
 use Rattle.av_filter.specs.Meanings.{AreOfStream, HasOneOutcome, HasOneReading, IsOfStream, IsReading, IsSettled, MakingLaws, MeaningLaws, ReadingLaws, is_of_stream}
 use Rattle.av_filter.specs.OptionExistence.{AreDecided, AreNumbered}
 use Rattle.av_filter.specs.Outcomes.{HasOne, ends_one}
 use Rattle.av_frame.specs.Pictures.{painted}
+use Rattle.av_frame.specs.declared.refusals.ConfigError.TheVariants.{NoMemory}
 use Rattle.av_filter.specs.Readings.{OptionLaws, BothHave, complete_law}
 use Rattle.av_frame.specs.Rules.{SameTimes}
 use Rattle.av_filter.specs.WordLaws.{word_below}
-use Rattle.filt_video.specs.Transpose.{transpose_names, turns, passthroughs, TransposeTakes, TransposeHas, turn_is, passthrough_is, transpose_rules, transpose_settings, turned_props, turned_shape, transposed_shape, turned, transpose_outcome, transpose_making, transpose}
-use Rattle.av_filter.specs.Decisions.{word_decided}
+use Rattle.filt_video.specs.Transpose.{transpose_names, turns, passthroughs, TransposeTakes, TransposeHas, turn_is, passthrough_is, transpose_rules, IsTurnable, transpose_settings, turned_props, turned_shape, transposed_shape, turned, transpose_outcome, transpose_making, transpose}
+use Rattle.av_filter.specs.Decisions.{IsDecided, word_decided}
 use Rattle.filt_video.specs.declared.transpose.Turn.{Turn}
 use Rattle.filt_video.specs.declared.transpose.Turn.TheVariants.{CclockFlip}
 use Rattle.filt_video.specs.declared.transpose.Passthrough.{Passthrough}
@@ -96,6 +101,25 @@ transpose_option_laws = record { decided = transpose_decided; numbered = transpo
 transpose_one_reading : (args : List Arg) → HasOneReading transpose_making (IsReading transpose_rules args)
 transpose_one_reading = complete_law transpose_making transpose_rules transpose_option_laws (λ options n r h. h) (λ options n. refl)
 
+-- ---- formats
+
+-- two formats are one, or they aren't
+equal_decided : (f g : Format) → IsDecided (f ≡ g)
+equal_decided f g = elim (cases_eq (place_of f) (place_of g)) [
+  | inl same ↦ inl (same_place f g same)
+  | inr apart ↦ inr (λ e. apart (ap place_of e))
+]
+
+-- pictures of a format can be turned, or they can't
+turnable_decided : (f : Format) → IsDecided (IsTurnable f)
+turnable_decided f = elim (equal_decided f (format.Video Yuv422p)) [
+  | inl plain ↦ inr (λ h. h.0 plain)
+  | inr other ↦ elim (equal_decided f (format.Video Yuva422p)) [
+    | inl alpha ↦ inr (λ h. h.1 alpha)
+    | inr neither ↦ inl (other, neither)
+  ]
+]
+
 -- ---- settings
 
 outcome_one : (o : TransposeOptions) (s : Shape) → HasOne (transpose_outcome o s)
@@ -104,6 +128,10 @@ outcome_one o s = after_limits (transposed_shape (transpose_settings o s) s) _ _
 
 transpose_one_outcome : (args : List Arg) → HasOneOutcome transpose_making (IsReading transpose_rules args)
 transpose_one_outcome args o s reads picture takes = outcome_one o s
+
+transpose_memory : (o : TransposeOptions) (s : Shape) → ¬ transpose_outcome o s (Err NoMemory)
+unfolding transpose_outcome
+transpose_memory o s outcome = let end = (limits_passed outcome).1 in cc
 
 -- ---- the output
 
@@ -183,7 +211,7 @@ transpose_stream t s = passing_stream t.passes s
 -- ---- the laws
 
 pub transpose_making_laws : MakingLaws transpose_making
-transpose_making_laws = record { pictured = transpose_pictured; stream = transpose_stream; keeps = transpose_keeps; shaped = transpose_shaped }
+transpose_making_laws = record { decided = λ o. turnable_decided; no_memory = transpose_memory; pictured = transpose_pictured; stream = transpose_stream; keeps = transpose_keeps; shaped = transpose_shaped }
 
 pub transpose_reading_laws : ReadingLaws transpose_making transpose_rules
 transpose_reading_laws = record { one_reading = transpose_one_reading; one_outcome = transpose_one_outcome }

@@ -24,7 +24,7 @@ use Rattle.av_base.proofs.Arithmetic.{first_along}
 use Rattle.graph_plan.specs.Orders.{Feeds, LeadsTo, Directly, Through, Reaches, IsReady, Comes, IsOrder, AreBelow}
 use Rattle.graph_plan.specs.Arranging.{IsArranged, Has, HasAll, IsMarked, IsAlong, AreRows, AreAdded, AreNeighbours}
 use Rattle.graph_plan.proofs.OrderLemmas.{is_listed}
-use Rattle.graph_plan.proofs.BuiltOrder.{cases_listed, can_or_waits, all_done}
+use Rattle.graph_plan.proofs.BuiltOrder.{cases_listed, cases_ready, can_or_waits, all_done}
 use Rattle.graph_plan.proofs.RowLemmas.{in_row}
 use Rattle.graph_plan.proofs.ReachLemmas.{set_stays}
 
@@ -371,7 +371,7 @@ pub arranging_stuck : (links : List Edge) (count index : ℕ) (neighbours : Neig
     → index < count → progress.ready.keys ≡ [] → ((filter : ℕ) → Reaches (Feeds links) filter filter → ⊥) → ⊥
 arranging_stuck links count index neighbours order progress below is left none straight =
     let many = is.many in
-    let full = le-length_from_below order count (λ filter low. is_listed order filter (all_done links count order below straight (λ other less. elim (can_or_waits links order other) [
+    let full = le-length_from_below order count (λ filter low. is_listed order filter (all_done (Feeds links) count order below straight (λ other less. elim (can_or_waits (Feeds links) (cases_ready links) order other) [
       | inl can ↦ absurd (let here = (is.ready other).1 (less, can.0, can.1) in let P : List ℕ → Type 0 = λ xs. Contains xs other in let nowhere : Contains [] other = subst P none here in let k : nowhere.0 < 0 = nowhere.1 in omega arith)
       | inr waits ↦ waits
     ]) filter low)) in

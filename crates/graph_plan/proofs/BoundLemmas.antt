@@ -17,21 +17,12 @@ use Rattle.graph_plan.specs.declared.plan.PlanFault.{PlanFault}
 use Rattle.graph_plan.specs.declared.plan.PlanFault.TheVariants.{NoSuchOutput, Unmapped, WrongKind}
 use Rattle.graph_plan.specs.Bindings.{Name, pad_names, file_names, Takes, FindsNone, IsUnmapped, CannotTake, TakesWrong, IsBindFault, Misses, Leaves, Mixes, link_to_output, IsBound, OutputsBindInOneWay}
 use Rattle.graph_plan.specs.Bindings.Name.{Label, Number}
-use Rattle.graph_plan.proofs.ListLemmas.{cases_Option}
+use Rattle.graph_plan.proofs.ListLemmas.{cases_Option, cases_text}
 use Rattle.av_base.proofs.Lists.{get_within, pushed_at}
 use Rattle.av_base.proofs.Arithmetic.{first_or_none}
 use Rattle.graph_plan.proofs.BindLemmas.{takes_called, takes_same, takes_within, wrong_fits, one_plan, one_fault, not_both}
 
 -- ---- names that are the same or aren't
-
-cases_text : (a b : List ℕ) → (a ≡ b) ⊎ (a ≡ b → ⊥)
-cases_text [] [] = inl refl
-cases_text [] (d ∷ b) = inr (λ e. cc)
-cases_text (c ∷ a) [] = inr (λ e. cc)
-cases_text (c ∷ a) (d ∷ b) = elim (cases_eq c d) [
-  | inl same ↦ elim (cases_text a b) [ inl rest ↦ inl (cc) | inr apart ↦ inr (λ e. apart (cc)) ]
-  | inr apart ↦ inr (λ e. apart (cc))
-]
 
 cases_Name : (a b : Name) → (a ≡ b) ⊎ (a ≡ b → ⊥)
 cases_Name (Label a) (Label b) = elim (cases_text a b) [ inl same ↦ inl (ap Label same) | inr apart ↦ inr (λ e. apart (cc)) ]
@@ -70,7 +61,7 @@ module _ (opens : List OpenOut) (files : List OutputFile) where
   ]
 
   -- a file takes this pad, or it doesn't
-  takes_or_not : (o k : ℕ) → Takes opens files k o ⊎ (Takes opens files k o → ⊥)
+  pub takes_or_not : (o k : ℕ) → Takes opens files k o ⊎ (Takes opens files k o → ⊥)
   takes_or_not o k = elim (takes_or_none k) [
     | inl takes ↦ elim (cases_eq takes.0 o) [
       | inl same ↦ inl (let P : ℕ → Type 0 = λ n. Takes opens files k n in subst P same takes.1)

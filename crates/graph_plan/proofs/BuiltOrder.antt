@@ -42,7 +42,7 @@ link_holds done taker (from.Filter giver pad) (to.Filter other in_pad) = elim (c
 ]
 
 -- a filter is ready, or one that isn't done gives to it
-cases_ready : (links : List Edge) (done : List ℕ) (taker : ℕ) → IsReady (Feeds links) done taker ⊎ HoldsBack (Feeds links) done taker
+pub cases_ready : (links : List Edge) (done : List ℕ) (taker : ℕ) → IsReady (Feeds links) done taker ⊎ HoldsBack (Feeds links) done taker
 cases_ready [] done taker = inl (λ giver feeds. absurd (let k : feeds.2.0 < 0 = feeds.2.1 in omega arith))
 cases_ready (link ∷ links) done taker = both (link_holds done taker link.from link.to) (cases_ready links done taker) where
   more : (giver : ℕ) → Feeds links giver taker → Feeds (link ∷ links) giver taker
@@ -57,18 +57,22 @@ cases_ready (link ∷ links) done taker = both (link_holds done taker link.from 
   both (inl ready) (inr held) = inr (held.0, more held.0 held.1, held.2)
   both (inr held) _ = inr (held.0, (held.1.0, held.1.1, contained (link ∷ links) 0 (record { from = from.Filter held.0 held.1.0; to = to.Filter taker held.1.1 }) (ap Some held.1.2)), held.2)
 
+-- each filter is ready or held back
+abbrev pub KnowsReady : (ℕ → ℕ → Type 0) → Type 0
+KnowsReady R = (done : List ℕ) (taker : ℕ) → IsReady R done taker ⊎ HoldsBack R done taker
+
 -- it isn't done, and can come
-abbrev pub CanCome : List Edge → List ℕ → ℕ → Type 0
-CanCome links done filter = (Contains done filter → ⊥) × IsReady (Feeds links) done filter
+abbrev pub CanCome : (ℕ → ℕ → Type 0) → List ℕ → ℕ → Type 0
+CanCome R done filter = (Contains done filter → ⊥) × IsReady R done filter
 
 -- it is done, or held back
-abbrev pub Waits : List Edge → List ℕ → ℕ → Type 0
-Waits links done filter = (Contains done filter → ⊥) → HoldsBack (Feeds links) done filter
+abbrev pub Waits : (ℕ → ℕ → Type 0) → List ℕ → ℕ → Type 0
+Waits R done filter = (Contains done filter → ⊥) → HoldsBack R done filter
 
-pub can_or_waits : (links : List Edge) (done : List ℕ) (filter : ℕ) → CanCome links done filter ⊎ Waits links done filter
-can_or_waits links done filter = elim (cases_listed done filter) [
+pub can_or_waits : (R : ℕ → ℕ → Type 0) → KnowsReady R → (done : List ℕ) (filter : ℕ) → CanCome R done filter ⊎ Waits R done filter
+can_or_waits R knows done filter = elim (cases_listed done filter) [
   | inl here ↦ inr (λ new. absurd (new here))
-  | inr new ↦ elim (cases_ready links done filter) [ inl ready ↦ inl (new, ready) | inr held ↦ inr (λ left. held) ]
+  | inr new ↦ elim (knows done filter) [ inl ready ↦ inl (new, ready) | inr held ↦ inr (λ left. held) ]
 ]
 
 -- ---- the order
@@ -78,20 +82,20 @@ abbrev IsLeft : ℕ → List ℕ → ℕ → Type 0
 IsLeft count done filter = (filter < count) × (Contains done filter → ⊥)
 
 -- if none can come, all are done
-pub all_done : (links : List Edge) (count : ℕ) (done : List ℕ) → AreBelow (Feeds links) count → ((filter : ℕ) → Reaches (Feeds links) filter filter → ⊥) → ((filter : ℕ) → filter < count → Waits links done filter)
+pub all_done : (R : ℕ → ℕ → Type 0) (count : ℕ) (done : List ℕ) → AreBelow R count → ((filter : ℕ) → Reaches R filter filter → ⊥) → ((filter : ℕ) → filter < count → Waits R done filter)
     → (filter : ℕ) → filter < count → Contains done filter
-all_done links count done below straight wait filter low = elim (cases_listed done filter) [
+all_done R count done below straight wait filter low = elim (cases_listed done filter) [
   | inl here ↦ here
-  | inr left ↦ absurd (held_cycle (Feeds links) count (IsLeft count done) below (λ taker is. let held = wait taker is.0 is.1 in (held.0, held.1, (below.givers held.0 taker held.1, held.2))) filter low (low, left) straight)
+  | inr left ↦ absurd (held_cycle R count (IsLeft count done) below (λ taker is. let held = wait taker is.0 is.1 in (held.0, held.1, (below.givers held.0 taker held.1, held.2))) filter low (low, left) straight)
 ]
 
 -- after those that are done come all that are left
-pub comes_on : (links : List Edge) (count : ℕ) → AreBelow (Feeds links) count → ((filter : ℕ) → Reaches (Feeds links) filter filter → ⊥) → (left : ℕ) (done : List ℕ) → length done + left ≡ count
-    → (filters : List ℕ) × Comes (Feeds links) count done filters
-comes_on links count below straight zero done all = ([], omega arith)
-comes_on links count below straight (suc left) done all = elim (first_or_none (CanCome links done) (Waits links done) (can_or_waits links done) count) [
+comes_on : (R : ℕ → ℕ → Type 0) → KnowsReady R → (count : ℕ) → AreBelow R count → ((filter : ℕ) → Reaches R filter filter → ⊥) → (left : ℕ) (done : List ℕ) → length done + left ≡ count
+    → (filters : List ℕ) × Comes R count done filters
+comes_on R knows count below straight zero done all = ([], omega arith)
+comes_on R knows count below straight (suc left) done all = elim (first_or_none (CanCome R done) (Waits R done) (can_or_waits R knows done) count) [
   | inl next ↦ (
-      let more = comes_on links count below straight left (done ++ next.0 ∷ []) (omega (arith, length_push done next.0)) in (
+      let more = comes_on R knows count below straight left (done ++ next.0 ∷ []) (omega (arith, length_push done next.0)) in (
         next.0 ∷ more.0,
         (
           next.1,
@@ -103,17 +107,17 @@ comes_on links count below straight (suc left) done all = elim (first_or_none (C
       )
       )
   | inr none ↦ absurd (
-      let full = le-length_from_below done count (λ filter low. is_listed done filter (all_done links count done below straight none filter low)) in
+      let full = le-length_from_below done count (λ filter low. is_listed done filter (all_done R count done below straight none filter low)) in
       omega arith
       )
 ]
 
-an_order : (links : List Edge) (count : ℕ) → AreBelow (Feeds links) count → ((filter : ℕ) → Reaches (Feeds links) filter filter → ⊥) → (order : List ℕ) × IsOrder (Feeds links) count order
-an_order links count below straight = comes_on links count below straight count [] (omega arith)
+pub order_of : (R : ℕ → ℕ → Type 0) → KnowsReady R → (count : ℕ) → AreBelow R count → ((filter : ℕ) → Reaches R filter filter → ⊥) → (order : List ℕ) × IsOrder R count order
+order_of R knows count below straight = comes_on R knows count below straight count [] (omega arith)
 
 pub orders_are_one : OneOrder
 orders_are_one = record {
   one_order = λ links count a b p q. same_comes (Feeds links) count [] a b p q;
   no_cycle = λ links count filter order below is reaches. comes_straight (Feeds links) count [] order filter (done_none (Feeds links) count) is (leads_below (Feeds links) count filter filter below reaches) reaches;
-  an_order = an_order;
+  an_order = λ links. order_of (Feeds links) (cases_ready links);
 }

@@ -6,14 +6,19 @@ mod ReachLemmas
 mod ArrangeLemmas
 mod BindLemmas
 mod CalledLemmas
-mod BoundLemmas
+pub mod BoundLemmas
 mod GraphLemmas
 mod CountLemmas
 mod TableLemmas
 mod LinkLemmas
-mod LawfulLemmas
+pub mod LawfulLemmas
+pub mod PathLemmas
 mod OriginLemmas
 mod ScanLemmas
 mod JoinLemmas
 mod TurnLemmas
 mod OpenLemmas
+mod Decisions
+mod FaultDecisions
+mod CycleDecisions
+pub mod OneOfBoth

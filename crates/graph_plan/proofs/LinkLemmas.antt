@@ -18,7 +18,7 @@ use Rattle.av_base.proofs.Arithmetic.{first_same}
 use Rattle.graph_plan.specs.Orders.{AreBelow}
 use Rattle.graph_plan.specs.Graphs.{Graph, pads_on, TakesFrom}
 use Rattle.graph_plan.specs.Links.{link_to, AreLinks, out_pad, AreLeft}
-use Rattle.graph_plan.specs.Refusals.{HasLabelTwice, FindsNone, IsSmall, IsLinkFault, IsLinked, GraphsLinkInOneWay}
+use Rattle.graph_plan.specs.Refusals.{HasLabelTwice, FindsNone, IsSmall, IsLinkFault, IsLinked}
 use Rattle.graph_plan.proofs.OrderLemmas.{same_comes, leads_below, done_none, comes_straight}
 use Rattle.graph_plan.proofs.GraphLemmas.{one_origin, no_origin, joined_giver_within, joined_taker_within}
 
@@ -57,7 +57,7 @@ same_left graph (giver ∷ givers) a b (inr p) (inr q) =
     let rest = same_left graph givers p.1.1 q.1.1 p.1.4 q.1.4 in
     p.1.3 ∙ (ap (λ (o : OpenOut). o ∷ p.1.1) first ∙ (ap (λ (os : List OpenOut). out_pad graph giver q.1.0 ∷ os) rest ∙ sym q.1.3))
 
-one_draft : (graph : Graph) (outputs : ℕ) (a b : DraftPlan) → IsLinked graph outputs a → IsLinked graph outputs b → a ≡ b
+pub one_draft : (graph : Graph) (outputs : ℕ) (a b : DraftPlan) → IsLinked graph outputs a → IsLinked graph outputs b → a ≡ b
 one_draft graph outputs a b p q =
     let links : a.links ≡ b.links = same_links graph p.sound.labels [] (pads_on graph In) a.links b.links p.draft_is.links q.draft_is.links in
     let order : a.order ≡ b.order = same_comes (TakesFrom graph) (length graph.calls) [] a.order b.order p.draft_is.order q.draft_is.order in
@@ -79,7 +79,7 @@ same_open graph once before (taker ∷ takers) f p g q (inr x) (inr y) =
     let P : Source → Type 0 = λ origin. FindsNone graph (before ++ link_to taker origin ∷ []) takers g q in
     same_open graph once (before ++ link_to taker x.0 ∷ []) takers f p g q x.2 (subst P (sym origins) y.2)
 
-one_fault : (graph : Graph) (outputs : ℕ) (f g : PlanFault) → IsLinkFault graph outputs f → IsLinkFault graph outputs g → f ≡ g
+pub one_fault : (graph : Graph) (outputs : ℕ) (f g : PlanFault) → IsLinkFault graph outputs f → IsLinkFault graph outputs g → f ≡ g
 one_fault graph outputs TooManyLinks TooManyLinks p q = refl
 one_fault graph outputs TooManyLinks (PadCount b) p q = absurd (q.0 p)
 one_fault graph outputs TooManyLinks (LabelTwice b) p q = absurd (q.0 p)
@@ -153,7 +153,7 @@ links_or_none graph once before (taker ∷ takers) (link ∷ links) filter pad p
     let P : Edge → Type 0 = λ l. FindsNone graph (before ++ l ∷ []) takers filter pad in
     links_or_none graph once (before ++ link ∷ []) takers links filter pad p.1 (subst P same q.2)
 
-not_both : (graph : Graph) (outputs : ℕ) (draft : DraftPlan) (f : PlanFault) → IsSmall graph → IsLinked graph outputs draft → IsLinkFault graph outputs f → ⊥
+pub not_both : (graph : Graph) (outputs : ℕ) (draft : DraftPlan) (f : PlanFault) → IsSmall graph → IsLinked graph outputs draft → IsLinkFault graph outputs f → ⊥
 not_both graph outputs draft TooManyLinks small p q = p.sound.few q
 not_both graph outputs draft (PadCount a) small p q = p.sound.pads a q.1.holds
 not_both graph outputs draft (LabelTwice a) small p q = p.sound.labels a q.2.holds
@@ -165,15 +165,12 @@ not_both graph outputs draft (Cycle a) small p q =
 not_both graph outputs draft (OpenPad a c) small p q = links_or_none graph p.sound.labels [] (pads_on graph In) draft.links a c p.draft_is.links q.2
 not_both graph outputs draft f small p q = q
 
-pub graphs_link_in_one_way : GraphsLinkInOneWay
-graphs_link_in_one_way = record { one_draft = one_draft; one_fault = one_fault; not_both = not_both }
-
 -- ---- what the call returns if there is a draft, and if there is a fault
 
 pub links : (graph : Graph) (outputs : ℕ) → IsSmall graph → (r : Result DraftPlan (Failure PlanFault)) → IfOk r (IsLinked graph outputs) → IfFault r (IsLinkFault graph outputs)
     → (draft : DraftPlan) → IsLinked graph outputs draft → Gives (λ made. made ≡ draft) r
-links graph outputs small r p q draft is = gives_from r p q (λ made made_is. graphs_link_in_one_way.one_draft graph outputs made draft made_is is) (λ f f_is. graphs_link_in_one_way.not_both graph outputs draft f small is f_is)
+links graph outputs small r p q draft is = gives_from r p q (λ made made_is. one_draft graph outputs made draft made_is is) (λ f f_is. not_both graph outputs draft f small is f_is)
 
 pub refuses : (graph : Graph) (outputs : ℕ) → IsSmall graph → (r : Result DraftPlan (Failure PlanFault)) → IfOk r (IsLinked graph outputs) → IfFault r (IsLinkFault graph outputs)
     → (f : PlanFault) → IsLinkFault graph outputs f → Refuses (λ found. found ≡ f) r
-refuses graph outputs small r p q f is = refuses_from r p q (λ made made_is. graphs_link_in_one_way.not_both graph outputs made f small made_is is) (λ found found_is. graphs_link_in_one_way.one_fault graph outputs found f found_is is)
+refuses graph outputs small r p q f is = refuses_from r p q (λ made made_is. not_both graph outputs made f small made_is is) (λ found found_is. one_fault graph outputs found f found_is is)

@@ -1,6 +1,7 @@
 -- Lists and options by cases.
-use Rattle.std.proofs.Common.{◌≡◌, ◌⊎◌, ℕ, zero, suc, List, ◌∷◌, Option, Some, None, refl, inl, inr}
+use Rattle.std.proofs.Common.{◌≡◌, ◌⊎◌, ℕ, zero, suc, List, [], ◌∷◌, Option, Some, None, refl, inl, inr}
 use Rattle.std.specs.List.{slice_get}
+use Rattle.std.proofs.lemmas.Bool.{cases_eq}
 use Rattle.std.proofs.lemmas.Option.{same_Some}
 
 -- an element of a list is its first, or one of the others
@@ -12,3 +13,13 @@ first_get x xs (suc k) y e = inr (k, refl, e)
 pub cases_Option : {X : Type 0} (o : Option X) → ((x : X) × (o ≡ Some x)) ⊎ (o ≡ None)
 cases_Option (Some x) = inl (x, refl)
 cases_Option None = inr refl
+
+-- two texts are the same, or they aren't
+pub cases_text : (a b : List ℕ) → (a ≡ b) ⊎ (a ≡ b → ⊥)
+cases_text [] [] = inl refl
+cases_text [] (d ∷ b) = inr (λ e. cc)
+cases_text (c ∷ a) [] = inr (λ e. cc)
+cases_text (c ∷ a) (d ∷ b) = elim (cases_eq c d) [
+  | inl same ↦ elim (cases_text a b) [ inl rest ↦ inl (cc) | inr apart ↦ inr (λ e. apart (cc)) ]
+  | inr apart ↦ inr (λ e. apart (cc))
+]

@@ -7,3 +7,4 @@ pub mod Arranging
 pub mod Bindings
 pub mod Places
 pub mod Lawful
+pub mod Paths

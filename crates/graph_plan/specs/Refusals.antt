@@ -21,8 +21,12 @@ use Rattle.graph_plan.specs.Links.{IsLeft, IsOrigin, link_to, IsDraft}
 abbrev pub link_count : Graph → ℕ → ℕ
 link_count graph outputs = sum_by (λ (p : Pads). length p.ins) graph.pads + outputs
 
+-- the greatest number of links
+abbrev pub most_links : ℕ
+most_links = 1024
+
 abbrev pub HasTooMany : Graph → ℕ → Type 0
-HasTooMany graph outputs = 1024 < link_count graph outputs
+HasTooMany graph outputs = most_links < link_count graph outputs
 
 -- a filter has more labels than pads
 pub record HasMoreLabels (graph : Graph) (filter : ℕ) : Type 0 where
@@ -143,8 +147,9 @@ pub record IsSmall (graph : Graph) : Type 0 where
   pub outs : All (λ (p : Pads). length p.outs < 4294967296) graph.pads
   pub files : length graph.files < 4294967296
 
--- a graph has one draft or one fault at most, and never both
+-- a small graph has exactly one draft or exactly one fault, always
 pub record GraphsLinkInOneWay : Type 0 where
   pub one_draft : (graph : Graph) (outputs : ℕ) (a b : DraftPlan) → IsLinked graph outputs a → IsLinked graph outputs b → a ≡ b
   pub one_fault : (graph : Graph) (outputs : ℕ) (f g : PlanFault) → IsLinkFault graph outputs f → IsLinkFault graph outputs g → f ≡ g
   pub not_both : (graph : Graph) (outputs : ℕ) (draft : DraftPlan) (f : PlanFault) → IsSmall graph → IsLinked graph outputs draft → IsLinkFault graph outputs f → ⊥
+  pub one_of_both : (graph : Graph) (outputs : ℕ) → IsSmall graph → ((draft : DraftPlan) × IsLinked graph outputs draft) ⊎ ((f : PlanFault) × IsLinkFault graph outputs f)

@@ -30,6 +30,24 @@ fn link(filter: u32, output: u32) -> Edge {
     }
 }
 
+/// What a draft gives for these files: a file is its label and its ending.
+pub(crate) fn bind_files(
+    rt: &impl Abort,
+    alloc: Global,
+    draft: DraftPlan,
+    files: &[(&str, Ending)],
+) -> Result<Result<Plan, PlanError>, AllocError> {
+    let mut outputs = Vec::new(alloc);
+    for (name, ending) in files {
+        outputs.push(OutputFile {
+            label: label(alloc, name)?,
+            ending: *ending,
+        })?;
+    }
+    assert!(rt; outputs.len() < 100);
+    Ok(draft.bind(alloc, &List::new(outputs)))
+}
+
 /// What a draft of one link, with these open pads, gives for these files: a pad is its filter, its label and its kind.
 fn bind(
     rt: &impl Abort,
@@ -46,20 +64,12 @@ fn bind(
             media: *media,
         })?;
     }
-    let mut outputs = Vec::new(alloc);
-    for (name, ending) in files {
-        outputs.push(OutputFile {
-            label: label(alloc, name)?,
-            ending: *ending,
-        })?;
-    }
     let draft = DraftPlan {
         links: List::new(vec![in alloc; first_link()]?),
         order: List::new(vec![in alloc; 0u32, 1]?),
         opens: List::new(opens),
     };
-    assert!(rt; outputs.len() < 100);
-    Ok(draft.bind(alloc, &List::new(outputs)))
+    bind_files(rt, alloc, draft, files)
 }
 
 #[test]

@@ -3,19 +3,19 @@ ghost use Rattle.std.specs.Prelude.{◌≡◌, ◌<◌, ◌≤◌, ◌+◌, ◌-
 ghost use Rattle.av_base.specs.Failures.{IfFault};
 ghost use Rattle.av_base.specs.First.{IsFirst, Never};
 ghost use Rattle.graph_plan.specs.Graphs.{labels, kinds};
-ghost use Rattle.graph_plan.specs.Refusals.{HasTooMany, HasWrongPads, HasMoreLabels, LacksInput, IsLinkFault, IsSmall};
+ghost use Rattle.graph_plan.specs.Refusals.{most_links, HasTooMany, HasWrongPads, HasMoreLabels, LacksInput, IsLinkFault, IsSmall};
 ghost use Rattle.graph_plan.specs.Joining.{graph_of, IsCounted};
 
 use crate::places::{Parts, Side, kinds, labels};
 use crate::plan::{Pads, PlanError, PlanFault};
 use graph_text::FilterCall;
 
-/// The greatest number of links.
-const MOST_LINKS: usize = 1024;
+/// The greatest number of links (`most_links`).
+pub const MOST_LINKS: usize = 1024;
 
 /// Whether the input pads and the outputs are more than the greatest number of links.
 fn has_too_many(pads: &[Pads], outputs: u32) -> bool
-    ensures { IsTrue result ↔ 1024 < sum_by (λ (p : Pads). length p.ins) pads.now + outputs }
+    ensures { IsTrue result ↔ most_links < sum_by (λ (p : Pads). length p.ins) pads.now + outputs }
 {
     let mut total = outputs as usize;
     'filters: for of_filter in pads {

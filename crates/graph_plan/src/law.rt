@@ -3,6 +3,7 @@ ghost use Rattle.graph_plan.specs.Orders.{OneOrder};
 ghost use Rattle.graph_plan.specs.Refusals.{GraphsLinkInOneWay};
 ghost use Rattle.graph_plan.specs.Bindings.{OutputsBindInOneWay};
 ghost use Rattle.graph_plan.specs.Lawful.{PlansAreLawful};
+ghost use Rattle.graph_plan.specs.Paths.{PlansArePaths};
 
 /// Links have at most one order of filters, and they have one exactly if no filter reaches itself.
 pub fn plans_have_one_order()
@@ -14,7 +15,7 @@ pub fn outputs_bind_in_one_way()
     ensures { OutputsBindInOneWay }
 {}
 
-/// A graph has at most one draft or fault, and never both.
+/// A small graph has exactly one draft or exactly one fault, always.
 pub fn graphs_link_in_one_way()
     ensures { GraphsLinkInOneWay }
 {}
@@ -23,4 +24,10 @@ pub fn graphs_link_in_one_way()
 /// filter comes once, after those that it takes from.
 pub fn plans_are_lawful()
     ensures { PlansAreLawful }
+{}
+
+/// The plan of one input, one output and filters that take one stream and give one is a path from the input through all
+/// filters, in their order, to the output.
+pub fn plans_of_single_filters_are_paths()
+    ensures { PlansArePaths }
 {}

@@ -14,8 +14,10 @@ mod places;
 mod plan;
 mod turns;
 
+pub use counts::MOST_LINKS;
 pub use law::{
     graphs_link_in_one_way, outputs_bind_in_one_way, plans_are_lawful, plans_have_one_order,
+    plans_of_single_filters_are_paths,
 };
 pub use linking::link;
 pub use plan::{
@@ -28,3 +30,5 @@ mod bind_tests;
 mod linking_tests;
 #[cfg(test)]
 mod order_tests;
+#[cfg(test)]
+mod plan_tests;

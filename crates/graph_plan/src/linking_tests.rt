@@ -55,7 +55,7 @@ fn pads_of(rt: &impl Abort, alloc: Global, text: &GraphText) -> Result<List<Pads
 }
 
 /// The draft of a text, of files that give these kinds, and of this number of outputs.
-fn draft(
+pub(crate) fn draft(
     rt: &impl Abort,
     alloc: Global,
     text: &str,
@@ -66,7 +66,7 @@ fn draft(
     let Ok(text) = parse(alloc, text) else {
         panic!(rt; "the text has no reading");
     };
-    assert!(rt; text.calls.as_slice().len() < 300);
+    assert!(rt; text.calls.as_slice().len() < 2000);
     let pads = pads_of(rt, alloc, &text)?;
     let files = kinds(rt, alloc, files)?;
     Ok(link(alloc, &text, &pads, files.as_slice(), outputs))

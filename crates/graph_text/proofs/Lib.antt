@@ -1,5 +1,5 @@
 mod LabelLemmas
 mod PartLemmas
-mod TotalLemmas
+pub mod TotalLemmas
 mod ArgCountLemmas
 pub mod GraphLemmas

@@ -1,9 +1,9 @@
 -- A call means one filter or has one fault, and a filter has one outcome, always.
-use Rattle.std.proofs.Common.{◌≡◌, Bool, true, false, Option, Some, None, Result, Ok, Err, refl}
+use Rattle.std.proofs.Common.{◌≡◌, ◌≢◌, Bool, true, false, Option, Some, None, Result, Ok, Err, refl, sym, subst}
 use Rattle.graph_text.specs.declared.graph.FilterCall.{FilterCall}
 use Rattle.av_filter.specs.Words.{word_in}
 use Rattle.av_frame.specs.declared.refusals.OptionError.{OptionError}
-use Rattle.av_frame.specs.declared.refusals.OptionError.TheVariants.{NotYet, UnknownFilter}
+use Rattle.av_frame.specs.declared.refusals.OptionError.TheVariants.{NoMemory, NotYet, UnknownFilter}
 use Rattle.node_core.specs.Filters.{frame_filters}
 use Rattle.node_core.specs.FilterLaws.{frame_filter_laws}
 use Rattle.node_core.specs.Kinds.{later_names, Means, IsKind, IsKindFault}
@@ -53,8 +53,14 @@ one_fault call (Means.Unknown p h) (Means.Refused f q g) = absurd (both q p)
 one_fault call (Means.Unknown p h) (Means.Unbuilt q g) = absurd (some_none _ _ g h)
 one_fault call (Means.Unknown p h) (Means.Unknown q g) = refl
 
+no_memory : (call : FilterCall) {e : OptionError} → IsKindFault call e → NoMemory ≢ e
+no_memory call (Means.Refused e p h) is =
+    (frame_filter_laws.one_reading call.name call.args p).no_memory (subst (λ (x : OptionError). frame_filters.reads call.name call.args (Err x)) (sym is) h)
+no_memory call (Means.Unbuilt p h) is = cc
+no_memory call (Means.Unknown p h) is = cc
+
 pub one_meaning : CallsHaveOneMeaning
-one_meaning = record { some = call_some; one = one_kind; not_both = apart; one_fault = λ call e f. one_fault call }
+one_meaning = record { some = call_some; one = one_kind; not_both = apart; one_fault = λ call e f. one_fault call; no_memory = λ call fault. no_memory call fault refl }
 
 pub one_outcome : FiltersHaveOneOutcome
 one_outcome call k s (Means.Filter kind e h) picture takes = frame_filter_laws.one_outcome call.name call.args k.options s h picture takes

@@ -1,5 +1,5 @@
--- A call means exactly one filter or is refused for exactly one fault, always; and a filter that a call means has exactly
--- one outcome, always, for pictures of every shape that it takes.
+-- A call means exactly one filter or is refused for exactly one fault, always, and out of memory is no fault of it; and a
+-- filter that a call means has exactly one outcome, always, for pictures of every shape that it takes.
 use Rattle.std.specs.Prelude.{◌≡◌, Result}
 use Rattle.av_base.specs.declared.formats.Format.{Format}
 use Rattle.av_base.specs.declared.shapes.Shape.{Shape}
@@ -7,6 +7,7 @@ use Rattle.graph_text.specs.declared.graph.FilterCall.{FilterCall}
 use Rattle.av_base.specs.Shapes.{IsPictureShape}
 use Rattle.av_filter.specs.Outcomes.{HasOne}
 use Rattle.av_frame.specs.declared.refusals.OptionError.{OptionError}
+use Rattle.av_frame.specs.declared.refusals.OptionError.TheVariants as option
 use Rattle.av_frame.specs.declared.refusals.ConfigError.{ConfigError}
 use Rattle.node_core.specs.Filters.{frame_filters}
 use Rattle.node_core.specs.Kinds.{Means, IsKind, IsKindFault}
@@ -24,6 +25,7 @@ pub record CallsHaveOneMeaning : Type 0 where
   pub one : (call : FilterCall) (a b : Kind) → IsKind call a → IsKind call b → FollowsKind a b
   pub not_both : (call : FilterCall) (a : Kind) (e : OptionError) → IsKind call a → ¬ IsKindFault call e
   pub one_fault : (call : FilterCall) (e f : OptionError) → IsKindFault call e → IsKindFault call f → e ≡ f
+  pub no_memory : (call : FilterCall) → ¬ IsKindFault call option.NoMemory
 
 abbrev pub FiltersHaveOneOutcome : Type 0
 FiltersHaveOneOutcome = (call : FilterCall) (k : Kind) (s : Shape) → IsKind call k → IsPictureShape s → Takes k s.format → HasOne (frame_filters.making.settles k.options s)

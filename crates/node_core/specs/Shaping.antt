@@ -9,11 +9,16 @@ use Rattle.av_frame.specs.Frames.{FrameValue}
 use Rattle.av_filter.specs.Meanings.{IsSettled}
 use Rattle.av_frame.specs.declared.refusals.ConfigError.{ConfigError}
 use Rattle.node_core.specs.Filters.{frame_filters}
+use Rattle.graph_plan.specs.declared.plan.Pads.{Pads}
 use Rattle.node_core.specs.declared.kind.Kind.{Kind}
 
 -- one pad, for video
 abbrev pub video_pads : List Media
 video_pads = Video ∷ []
+
+-- what a filter's pads take and give: all filters that there are take one video and give one
+abbrev pub pads_of : Kind → Pads
+pads_of kind = record { ins = video_pads; outs = video_pads }
 
 -- a filter takes pictures of this format
 abbrev pub Takes : Kind → Format → Type 0

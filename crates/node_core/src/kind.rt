@@ -5,7 +5,7 @@ ghost use Rattle.av_filter.specs.Meanings.{IsOnly};
 ghost use Rattle.av_frame.specs.declared.refusals.OptionError.TheVariants as option;
 ghost use Rattle.av_frame.specs.declared.refusals.ConfigError.TheVariants as config;
 ghost use Rattle.node_core.specs.Kinds.{IsKind, IsKindFault};
-ghost use Rattle.node_core.specs.Shaping.{video_pads, Takes, IsReady, IsConfigFault};
+ghost use Rattle.node_core.specs.Shaping.{video_pads, pads_of, Takes, IsReady, IsConfigFault};
 
 use crate::filters::{FrameFilters, FrameOptions};
 use crate::name::later_in;
@@ -58,8 +58,7 @@ impl Kind {
     /// # Errors
     /// Out of memory.
     pub fn pads(&self, alloc: Global) -> Result<Pads, NoMemory>
-        ensures ins { IfOk result (λ pads. pads.ins ≡ video_pads) }
-        ensures outs { IfOk result (λ pads. pads.outs ≡ video_pads) }
+        ensures { IfOk result (λ pads. pads ≡ pads_of self.now) }
     {
         let ins = one_video(alloc)?;
         let outs = one_video(alloc)?;

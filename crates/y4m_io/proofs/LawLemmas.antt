@@ -12,7 +12,7 @@ use Rattle.y4m_io.proofs.LineLemmas.{header_unique}
 use Rattle.y4m_io.proofs.FrameListLemmas.{split_same, some_frame, length-frame_at}
 
 -- texts of one length that begin the same text
-split_first : (vs bs xs ys : List ℕ) → vs ++ xs ≡ bs ++ ys → length vs ≡ length bs → vs ≡ bs
+pub split_first : (vs bs xs ys : List ℕ) → vs ++ xs ≡ bs ++ ys → length vs ≡ length bs → vs ≡ bs
 split_first [] [] xs ys e n = refl
 split_first [] (b ∷ bs) xs ys e n = absurd (omega arith)
 split_first (v ∷ vs) [] xs ys e n = absurd (omega arith)
@@ -62,7 +62,7 @@ same_planes (x ∷ xs) (y ∷ ys) n alike e =
     cc
 
 -- the planes of pictures of one shape
-same_picture : (shape : Shape) (xs ys : List Raster) → ArePlanes shape xs → ArePlanes shape ys → picture_text xs ≡ picture_text ys → xs ≡ ys
+pub same_picture : (shape : Shape) (xs ys : List Raster) → ArePlanes shape xs → ArePlanes shape ys → picture_text xs ≡ picture_text ys → xs ≡ ys
 same_picture shape xs ys a b e =
     same_planes xs ys (a.count ∙ sym b.count) (λ p h. let few : p < length ys = (let m = a.count in let n = b.count in omega arith) in record {
       width = a.width p (let m = a.count in omega arith) ∙ sym (b.width p (let n = b.count in omega arith));
@@ -71,7 +71,7 @@ same_picture shape xs ys a b e =
       right = b.rows p (let n = b.count in omega arith);
     }) e
 
-planes_at : (shape : Shape) (k : ℕ) (f : FrameValue) → IsFrameAt shape k f → ArePlanes shape f.planes
+pub planes_at : (shape : Shape) (k : ℕ) (f : FrameValue) → IsFrameAt shape k f → ArePlanes shape f.planes
 planes_at shape k f is = subst (λ (s : Shape). ArePlanes s f.planes) is.shape_is is.is_frame.picture.sizes
 
 same_frame : (shape : Shape) (k : ℕ) (x y : FrameValue) → IsFrameAt shape k x → IsFrameAt shape k y → frame_text x.planes ≡ frame_text y.planes → x ≡ y

@@ -6,6 +6,8 @@ pub mod FrameLemmas
 pub mod FrameListLemmas
 mod ReadLemmas
 mod WriteLemmas
+mod WrittenLengths
 pub mod LawLemmas
+pub mod DecidedLemmas
 mod WrittenLemmas
 mod SlowLemmas

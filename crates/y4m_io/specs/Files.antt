@@ -1,8 +1,8 @@
 -- Whole files of YUV4MPEG2: a header line and frames.
-use Rattle.std.specs.Prelude.{◌≡◌, ℕ, List, ◌++◌}
+use Rattle.std.specs.Prelude.{◌≡◌, ◌⊎◌, ℕ, List, ◌++◌}
 use Rattle.av_base.specs.declared.shapes.Shape.{Shape}
 use Rattle.av_frame.specs.Frames.{FrameValue}
-use Rattle.y4m_io.specs.HeaderTexts.{IsHeader, header_text}
+use Rattle.y4m_io.specs.HeaderTexts.{IsHeader, BeginsHeader, header_text}
 use Rattle.y4m_io.specs.FrameTexts.{frames_text, AreFramesFrom}
 
 -- the bytes are a whole file of this shape and these frames
@@ -19,6 +19,11 @@ pub record BeginsFile (bytes : List ℕ) (shape : Shape) (frames : List FrameVal
   pub header : IsHeader line shape
   pub are_frames : AreFramesFrom shape 0 frames
   pub text : bytes ≡ line ++ (frames_text frames ++ rest)
+
+-- bytes begin with a header line or they don't, and they are a whole file or they aren't
+pub record FilesAreDecided : Type 0 where
+  pub header : (text : List ℕ) → BeginsHeader text ⊎ ¬ BeginsHeader text
+  pub file : (bytes : List ℕ) → ((shape : Shape) × (frames : List FrameValue) × IsFile bytes shape frames) ⊎ ((shape : Shape) (frames : List FrameValue) → ¬ IsFile bytes shape frames)
 
 -- the text of a stream that goes on
 abbrev pub open_text : Shape → List FrameValue → List ℕ

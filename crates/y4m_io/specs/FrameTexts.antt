@@ -2,6 +2,7 @@
 use Rattle.std.specs.Prelude.{◌≡◌, ◌+◌, ◌<◌, ◌≤◌, ℕ, pos, List, [], ◌∷◌, ◌++◌, map, take, length, codes}
 use Rattle.std.specs.List.{concat}
 use Rattle.av_base.specs.declared.shapes.Shape.{Shape}
+use Rattle.av_base.specs.Bounds.{greatest_picture}
 use Rattle.av_base.specs.Shapes.{bytes_of}
 use Rattle.av_frame.specs.Rasters.{Raster}
 use Rattle.av_frame.specs.Frames.{FrameValue, ArePlanes, IsFrame}
@@ -20,6 +21,10 @@ frame_text planes = frame_mark ++ picture_text planes
 -- how many bytes each frame of the shape has
 abbrev pub frame_size : Shape → ℕ
 frame_size shape = length frame_mark + bytes_of shape
+
+-- how many bytes a frame has at most
+abbrev pub greatest_frame : ℕ
+greatest_frame = length frame_mark + greatest_picture
 
 abbrev pub frames_text : List FrameValue → List ℕ
 frames_text frames = concat (map (λ f. frame_text f.planes) frames)

@@ -1,10 +1,11 @@
-//! The law of files: the text of frames is read as these frames, and in no other way.
+//! The laws of files: the text of frames is read as these frames, and in no other way; and of all bytes it is decided
+//! whether they are a file.
 ghost use Rattle.std.specs.Prelude.{◌≡◌, ◌++◌, ℕ, List};
 ghost use Rattle.av_base.specs.declared.shapes.Shape.{Shape};
 ghost use Rattle.av_frame.specs.Frames.{FrameValue};
 ghost use Rattle.y4m_io.specs.HeaderTexts.{IsHeader};
 ghost use Rattle.y4m_io.specs.FrameTexts.{AreFramesFrom, frames_text};
-ghost use Rattle.y4m_io.specs.Files.{IsFile, whole_text};
+ghost use Rattle.y4m_io.specs.Files.{IsFile, FilesAreDecided, whole_text};
 
 /// A file has one reading. Its contract is the law; the call does nothing.
 ///
@@ -19,4 +20,10 @@ pub fn files_have_one_reading()
     ensures written { (line last : List ℕ) (shape other : Shape) (frames others : List FrameValue) → IsHeader line shape → IsHeader last other
         → AreFramesFrom shape 0 frames → AreFramesFrom other 0 others → whole_text other others ≡ whole_text shape frames
         → (other ≡ shape) × (others ≡ frames) }
+{}
+
+/// Bytes begin with a header line or they don't, and are a whole file or aren't. Its contract is the law; the call does
+/// nothing.
+pub fn files_are_decided()
+    ensures { FilesAreDecided }
 {}

@@ -321,6 +321,13 @@ impl Reader {
         })
     }
 
+    /// How many frames it has given.
+    pub fn frames(&self) -> u64
+        ensures { result ≡ self.now.frames }
+    {
+        self.frames
+    }
+
     /// Reads the header line, and returns its shape.
     ///
     /// # Errors

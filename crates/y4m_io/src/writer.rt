@@ -6,9 +6,9 @@ ghost use Rattle.av_base.specs.Shapes.{planes_of, columns_of};
 ghost use Rattle.av_host.specs.Calls.{Changes, appended, Counts, RaisesWrites};
 ghost use Rattle.av_frame.specs.Frames.{plane_at};
 ghost use Rattle.av_host.specs.HostRuns.{WritesPart};
-ghost use Rattle.y4m_io.specs.Sizes.{piece_size};
+ghost use Rattle.y4m_io.specs.Sizes.{piece_size, longest_line};
 ghost use Rattle.y4m_io.specs.HeaderTexts.{header_text, IsWritable};
-ghost use Rattle.y4m_io.specs.FrameTexts.{picture_text, frame_text};
+ghost use Rattle.y4m_io.specs.FrameTexts.{picture_text, frame_text, frame_size, greatest_frame};
 ghost use Rattle.y4m_io.specs.Writing.{Writes, CountsWrite, write_error_of};
 ghost use Rattle.y4m_io.specs.declared.y4m_state.Progress.{Progress};
 
@@ -22,12 +22,14 @@ use av_host::{Host, HostError, write_all};
 use std::alloc::Global;
 use std::marker::Model;
 
-/// A writer to one output of a host. Contracts see which output it writes, the shape of its pictures, and how far it is.
+/// A writer to one output of a host. Contracts see which output it writes, the shape of its pictures, how far it is, and how
+/// many bytes it wrote.
 #[derive(Drop)]
 pub struct Writer {
     id: u32,
     shape: Shape,
     progress: Progress,
+    bytes: u64,
     buffer: Vec<u8>,
 }
 
@@ -39,7 +41,7 @@ impl Model for Writer {
 
     ghost Value = { Writing };
 
-    ghost view = { λ w. record { id = w.id; shape = w.shape; progress = w.progress } };
+    ghost view = { λ w. record { id = w.id; shape = w.shape; progress = w.progress; bytes = w.bytes } };
 
     ghost invariant = { λ w. (vec_len w.buffer ≡ piece_size) × IsWritable w.shape };
 }
@@ -127,19 +129,27 @@ fn write_error(error: HostError) -> WriteError
 }
 
 impl Writer {
+    /// How many bytes the header line and the frames have that were written whole. More than 2^64 - 1 are shown as 2^64 - 1.
+    pub fn bytes(&self) -> u64
+        ensures { result ≡ self.now.bytes }
+    {
+        self.bytes
+    }
+
     /// A writer of pictures of the shape to the output with this id.
     ///
     /// # Errors
     /// Out of memory.
     pub fn new(alloc: Global, id: u32, shape: Shape) -> Result<Writer, NoMemory>
         requires { IsWritable shape }
-        ensures { IfOk result (λ w. w ≡ record { id = id; shape = shape; progress = Progress.Fresh }) }
+        ensures { IfOk result (λ w. w ≡ record { id = id; shape = shape; progress = Progress.Fresh; bytes = 0 }) }
     {
         let buffer = vec![in alloc; 0u8; PIECE]?;
         Ok(Writer {
             id,
             shape,
             progress: Progress::Fresh,
+            bytes: 0,
             buffer,
         })
     }
@@ -154,6 +164,7 @@ impl Writer {
         requires fresh { self.old.progress ≡ Progress.Fresh }
         ensures writes { Writes (H.world host.old) (H.world host.new) self.old self.new (header_text self.old.shape) Progress.Started result }
         ensures faults { CountsWrite result (H.world host.old).faults (H.world host.new).faults }
+        ensures short { OnOk result (length (header_text self.old.shape) ≤ longest_line) }
     {
         self.progress = Progress::Spent;
         let line = match write_header(alloc, self.shape) {
@@ -161,6 +172,7 @@ impl Writer {
             Err(NoMemory) => return Err(WriteError::NoMemory),
         };
         write_all(host, self.id, line.as_bytes()).map_err(write_error)?;
+        self.bytes = self.bytes.saturating_add(line.len() as u64);
         self.progress = Progress::Started;
         Ok(())
     }
@@ -181,10 +193,14 @@ impl Writer {
         requires shape { frame.old.shape ≡ self.old.shape }
         ensures writes { Writes (H.world host.old) (H.world host.new) self.old self.new (frame_text frame.old.planes) Progress.Started result }
         ensures faults { CountsWrite result (H.world host.old).faults (H.world host.new).faults }
+        ensures size { OnOk result (length (frame_text frame.old.planes) ≡ frame_size self.old.shape) }
+        ensures small { OnOk result (frame_size self.old.shape ≤ greatest_frame) }
         ensures same { frame.new ≡ frame.old }
     {
         self.progress = Progress::Spent;
         write_frame(host, self.id, frame, &mut self.buffer).map_err(write_error)?;
+        let size = FRAME_MARK.len() as u64 + frame.shape().picture_bytes();
+        self.bytes = self.bytes.saturating_add(size);
         self.progress = Progress::Started;
         Ok(())
     }

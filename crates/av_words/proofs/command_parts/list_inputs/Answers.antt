@@ -1,7 +1,8 @@
 use Rattle.std.proofs.Common.{◌∷◌, [], get_or, take, filter}
 use Rattle.std.proofs.lemmas.List.Elements.{filter-append}
 use Rattle.av_words.specs.WordRoles.{said_of, line_of}
-use Rattle.av_words.specs.CommandWords.{is_input, SaysInput}
+use Rattle.av_words.specs.WordFaults.{is_input}
+use Rattle.av_words.specs.CommandWords.{SaysInput}
 use Rattle.av_words.proofs.WordCheckLemmas.{no_item, item_here, line_more}
 use Rattle.av_words.proofs.CommandPartLemmas.{no_bad_number, no_bad_ending, zip_append}
 use Rattle.av_words.proofs.command_parts.list_inputs.Goals as goal

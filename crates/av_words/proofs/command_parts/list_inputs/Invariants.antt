@@ -1,7 +1,8 @@
 use Rattle.std.proofs.Common.{take, filter}
 use Rattle.std.specs.List.{AllZip}
 use Rattle.av_words.specs.WordRoles.{line_of}
-use Rattle.av_words.specs.CommandWords.{is_input, SaysInput}
+use Rattle.av_words.specs.WordFaults.{is_input}
+use Rattle.av_words.specs.CommandWords.{SaysInput}
 use Rattle.av_words.proofs.command_parts.list_inputs.Given as goal
 
 abbrev pub invariant-items : goal.invariant-items

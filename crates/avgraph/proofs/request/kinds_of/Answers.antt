@@ -8,5 +8,5 @@ returns-in-Err-clause-stop c =
 
 pub loop-filter-preserved : goal.loop-filter-preserved
 loop-filter-preserved c =
-    rw c.in-Ok-push.ensures.items
+    rw c.in_ok-push.ensures.items
     (kinds_more c.args.calls.now c.loop-filter.kinds.items c.loop-filter.filter c.index-calls-filter.result c.in-Ok.kind c.loop-filter-test.true c.index-calls-filter.is c.loop-filter.invariant c.in-Ok.ensures.kind)

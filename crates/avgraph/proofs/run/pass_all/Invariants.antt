@@ -7,10 +7,10 @@ abbrev pub invariant-loop-frame : goal.invariant-loop-frame
 invariant-loop-frame g l = record {
   id : l.reader.id ≡ l.initial.reader.id;
   stage : l.reader.stage ≡ Headed l.initial.chain.shape;
-  writer : l.writer ≡ l.initial.writer;
+  writer : l.writer ≡ record l.initial.writer { bytes = l.writer.bytes };
   chain : l.chain ≡ record l.initial.chain { next = pos l.reader.frames };
   faults : (g.H.Host.world l.host).faults ≡ (g.H.Host.world l.initial.host).faults;
-  so_far : SoFar l.initial.chain.shape l.initial.chain.readies l.initial.reader.room (g.H.Host.world l.initial.host) (g.H.Host.world l.host) l.reader.id l.initial.writer.id l.reader.room l.reader.frames;
+  so_far : SoFar l.initial.chain.shape l.initial.chain.readies l.initial.reader.room l.initial.writer.bytes (g.H.Host.world l.initial.host) (g.H.Host.world l.host) l.reader.id l.initial.writer.id l.reader.room l.reader.frames l.writer.bytes;
 }
 
 abbrev pub decreases-loop-frame : goal.decreases-loop-frame

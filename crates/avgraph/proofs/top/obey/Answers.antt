@@ -1,20 +1,20 @@
-use Rattle.std.proofs.Common.{sym}
+use Rattle.std.proofs.Common.{map}
+use Rattle.std.specs.Prelude.{string_bytes}
 use Rattle.avgraph.specs.Bounds.{greatest_input}
-use Rattle.avgraph.proofs.ObeyLemmas.{obeys_text, obeys_run}
-use Rattle.avgraph.proofs.ReadyLemmas.{few_kinds}
+use Rattle.avgraph.proofs.HeadlineLemmas.{obeys_asked, obeys_done, obeys_stopped}
 use Rattle.avgraph.proofs.top.obey.Goals as goal
 
-pub run_command-requires-clause-few : goal.run_command-requires-clause-few
-run_command-requires-clause-few g c = λ κs lives. rw c.deref.ensures.value (few_kinds c.in-Ok.ensures.filters.0 c.in-Ok.kinds.items c.in-Ok.ensures.filters.1.few c.in-Ok.ensures.filters.2)
-
-pub run_command-requires-clause-named : goal.run_command-requires-clause-named
-run_command-requires-clause-named g c = λ κs lives. (c.in-Ok.ensures.filters.0, rw c.deref.ensures.value c.in-Ok.ensures.filters.2)
-
-pub returns-in-Ok : goal.returns-in-Ok
-returns-in-Ok g c =
-    let says = c.in-Ok.ensures.filters in
-    obeys_run greatest_input _ (g.H.Host.world c.args.host.now) (g.H.Host.world c.run_command.new.host) c.in-Some.input.now c.in-Some.text.now c.in-Some.output.now says.0 c.run_command.result
-    (sym c.in-Some.ensures) says.1 (c.run_command.ensures.commands says.0 (rw c.deref.ensures.value says.2)) c.run_command.ensures.faults
-
 pub returns-in-Err : goal.returns-in-Err
-returns-in-Err g c = obeys_text greatest_input _ (g.H.Host.world c.args.host.now) c.in-Some.input.now c.in-Some.text.now c.in-Some.output.now c.in-Err.stop (sym c.in-Some.ensures) c.in-Err.ensures.stop
+returns-in-Err g c = obeys_asked greatest_input (map string_bytes c.args.words.now) (g.H.Host.world c.args.host.now) c.in-Err.stop c.in-Err.ensures
+
+pub returns-in-Ok-run_job : goal.returns-in-Ok-run_job
+returns-in-Ok-run_job g c =
+    let asked = c.in-Ok.ensures in
+    let done = c.in-Ok-run_job.ensures in
+    obeys_done greatest_input (map string_bytes c.args.words.now) (g.H.Host.world c.args.host.now) (g.H.Host.world c.run_job.new.host) asked.0 c.in-Ok-run_job.counts c.in-Ok.job.report asked.1 (done.commands asked.0 asked.2) asked.2.report done.faults
+
+pub returns : goal.returns
+returns g c =
+    let asked = c.in-Ok.ensures in
+    let stopped = c.in-Err-run_job.ensures in
+    obeys_stopped greatest_input (map string_bytes c.args.words.now) (g.H.Host.world c.args.host.now) (g.H.Host.world c.run_job.new.host) asked.0 c.in-Err-run_job.stop asked.1 (stopped.commands asked.0 asked.2) stopped.faults

@@ -1,5 +1,4 @@
-use Rattle.std.proofs.Common.{◌≡◌, ℕ, ◌++◌, List, Some, length, refl, ap, sym, ◌∙◌, arith, get_or, take}
-use Rattle.std.proofs.Math.Seq.{take-length}
+use Rattle.std.proofs.Common.{◌≡◌, ℕ, ◌++◌, List, Some, refl, ap, ◌∙◌, arith, get_or, take}
 use Rattle.std.proofs.lemmas.List.{get_or_default}
 use Rattle.std.proofs.lemmas.Result.{err_from_is_err_and}
 use Rattle.av_host.specs.Calls.{appended}
@@ -20,7 +19,7 @@ pub returns-clause-written : goal.returns-clause-written
 returns-clause-written c =
     let xs = c.args.self.now.made.items in
     let i = c.args.id in
-    let piece = c.args.piece.now in
+    let piece = take c.min-taken.result c.args.piece.now in
     let x = c.append_to.new.made in
     let now = c.in_ok-append_to.ensures in
     let live : (n : List ℕ) × (live_name name_of xs i ≡ Some n) = some_of _ c.requires in
@@ -29,8 +28,8 @@ returns-clause-written c =
       held = refl;
       inputs = refl;
       said = refl;
-      outputs = alters xs i x live.0 (appended (take (length piece) piece)) live.1 (now.name ∙ ap name_of was)
-          (now.ok ∙ ap (λ o. bytes_of o ++ piece) was ∙ ap (λ p. bytes_of (get_or xs i x) ++ p) (sym (take-length piece)));
+      outputs = alters xs i x live.0 (appended piece) live.1 (now.name ∙ ap name_of was)
+          (now.ok ∙ ap (λ o. bytes_of o ++ piece) was);
     }
 
 pub returns-in_err-append_to-clause-refused : goal.returns-in_err-append_to-clause-refused
