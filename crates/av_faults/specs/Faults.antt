@@ -7,8 +7,8 @@ use Rattle.av_text.specs.declared.fault.TextKind.{TextKind}
 use Rattle.av_text.specs.declared.fault.TextKind.TheVariants.{UnclosedQuote, LoneEscape, ExpectedName, BadLabel, Stray}
 use Rattle.av_faults.specs.declared.fault.Fault.{Fault}
 use Rattle.av_faults.specs.declared.fault.LimitKind.{LimitKind}
-use Rattle.av_faults.specs.declared.fault.LimitKind.TheVariants.{Text, Inputs, Outputs, Filters, Links}
-use Rattle.av_faults.specs.declared.fault.Fault.TheVariants.{UnknownWord, MissingValue, BadNumber, BadEnding, SameName, NoGraph, NoOutput, NotYet, UnknownFilter, UnknownOption, TooManyValues, BadValue, MissingOption, PadCount, LabelTwice, UnknownInput, MediaMismatch, Cycle, OpenPad, Unmapped, NoSuchOutput, WrongKind, NoCommonFormat, SizeMismatch, BadGeometry, TooLarge, TimeBaseRange, NoValue, OpenFault, ReadFault, WriteFault, TextFault, Limit}
+use Rattle.av_faults.specs.declared.fault.LimitKind.TheVariants.{Text, Inputs, Outputs, Filters, Links, Bytes}
+use Rattle.av_faults.specs.declared.fault.Fault.TheVariants.{UnknownWord, MissingValue, BadNumber, BadEnding, SameName, NoGraph, NoOutput, NotYet, UnknownFilter, UnknownOption, TooManyValues, BadValue, MissingOption, PadCount, LabelTwice, UnknownInput, MediaMismatch, Cycle, OpenPad, Unmapped, NoSuchOutput, WrongKind, NotMedia, BadHeader, BadColour, NoCommonFormat, SizeMismatch, BadGeometry, TooLarge, TimeBaseRange, NoValue, NoRate, BadFrame, Truncated, OpenFault, ReadFault, WriteFault, TextFault, Limit}
 use Rattle.av_faults.specs.declared.fault.Stop.{Stop}
 use Rattle.av_faults.specs.declared.fault.Stop.TheVariants as stop
 
@@ -35,12 +35,18 @@ stop_status (stop.Fault (OpenPad filter pad)) = 5
 stop_status (stop.Fault (Unmapped filter pad)) = 5
 stop_status (stop.Fault (NoSuchOutput output)) = 5
 stop_status (stop.Fault (WrongKind output)) = 5
+stop_status (stop.Fault (NotMedia input)) = 6
+stop_status (stop.Fault (BadHeader input)) = 6
+stop_status (stop.Fault (BadColour input)) = 6
 stop_status (stop.Fault (NoCommonFormat link)) = 7
 stop_status (stop.Fault (SizeMismatch filter a b)) = 8
 stop_status (stop.Fault (BadGeometry filter found allowed)) = 8
 stop_status (stop.Fault (TooLarge filter found allowed)) = 8
 stop_status (stop.Fault (TimeBaseRange filter)) = 8
 stop_status (stop.Fault (NoValue filter option)) = 8
+stop_status (stop.Fault (NoRate output)) = 8
+stop_status (stop.Fault (BadFrame input frame)) = 9
+stop_status (stop.Fault (Truncated input place)) = 9
 stop_status (stop.Fault (Limit kind which allowed)) = 10
 stop_status (stop.Fault OpenFault) = 11
 stop_status (stop.Fault ReadFault) = 12
@@ -61,6 +67,7 @@ limit_word Inputs = codes "inputs"
 limit_word Outputs = codes "outputs"
 limit_word Filters = codes "filters"
 limit_word Links = codes "links"
+limit_word Bytes = codes "bytes"
 
 -- the name of a stop, and its fields
 abbrev pub stop_text : Stop → List ℕ
@@ -86,6 +93,9 @@ stop_text (stop.Fault (OpenPad filter pad)) = codes "OpenPad filter=" ++ decimal
 stop_text (stop.Fault (Unmapped filter pad)) = codes "Unmapped filter=" ++ decimal filter ++ codes " pad=" ++ decimal pad
 stop_text (stop.Fault (NoSuchOutput output)) = codes "NoSuchOutput output=" ++ decimal output
 stop_text (stop.Fault (WrongKind output)) = codes "WrongKind output=" ++ decimal output
+stop_text (stop.Fault (NotMedia input)) = codes "NotMedia input=" ++ decimal input
+stop_text (stop.Fault (BadHeader input)) = codes "BadHeader input=" ++ decimal input
+stop_text (stop.Fault (BadColour input)) = codes "BadColour input=" ++ decimal input
 stop_text (stop.Fault (NoCommonFormat link)) = codes "NoCommonFormat link=" ++ decimal link
 stop_text (stop.Fault (SizeMismatch filter a b)) = codes "SizeMismatch filter=" ++ decimal filter ++ codes " a=" ++ decimal a ++ codes " b=" ++ decimal b
 stop_text (stop.Fault (BadGeometry filter found allowed)) =
@@ -93,6 +103,9 @@ stop_text (stop.Fault (BadGeometry filter found allowed)) =
 stop_text (stop.Fault (TooLarge filter found allowed)) = codes "TooLarge filter=" ++ decimal filter ++ codes " found=" ++ decimal found ++ codes " allowed=" ++ decimal allowed
 stop_text (stop.Fault (TimeBaseRange filter)) = codes "TimeBaseRange filter=" ++ decimal filter
 stop_text (stop.Fault (NoValue filter option)) = codes "NoValue filter=" ++ decimal filter ++ codes " option=" ++ decimal option
+stop_text (stop.Fault (NoRate output)) = codes "NoRate output=" ++ decimal output
+stop_text (stop.Fault (BadFrame input frame)) = codes "BadFrame input=" ++ decimal input ++ codes " frame=" ++ decimal frame
+stop_text (stop.Fault (Truncated input place)) = codes "Truncated input=" ++ decimal input ++ codes " place=" ++ decimal place
 stop_text (stop.Fault OpenFault) = codes "OpenFault count=1"
 stop_text (stop.Fault ReadFault) = codes "ReadFault count=1"
 stop_text (stop.Fault WriteFault) = codes "WriteFault count=1"
@@ -109,10 +122,15 @@ abbrev pub stop_of : Failure Fault → Stop
 stop_of (failure.Fault fault) = stop.Fault fault
 stop_of failure.NoMemory = stop.NoMemory
 
--- the statuses of faults of the words, of the graph text, of its filters' names and options, of its links, and of limits
+-- the statuses of faults of the words, of the graph text, of its filters' names and options, of its links, and of what can't
+-- be done today
 abbrev pub IsOfWords : ℕ → Type 0
-IsOfWords status = (status ≡ 2) ⊎ ((status ≡ 3) ⊎ ((status ≡ 4) ⊎ ((status ≡ 5) ⊎ (status ≡ 10))))
+IsOfWords status = (status ≡ 2) ⊎ ((status ≡ 3) ⊎ ((status ≡ 4) ⊎ ((status ≡ 5) ⊎ (status ≡ 15))))
 
 -- the statuses of faults of a file, and of what filters make of its shape
 abbrev pub IsOfFile : ℕ → Type 0
-IsOfFile status = (status ≡ 7) ⊎ ((status ≡ 8) ⊎ (status ≡ 15))
+IsOfFile status = (status ≡ 6) ⊎ ((status ≡ 7) ⊎ ((status ≡ 8) ⊎ (status ≡ 9)))
+
+-- the status of a limit that is passed: one of the words and the graph, or that of an input's bytes
+abbrev pub IsOfLimit : ℕ → Type 0
+IsOfLimit status = status ≡ 10

@@ -1,6 +1,7 @@
 //! The lines and the statuses of stops.
 
-use crate::fault::{Fault, LimitKind, Stop, line, status};
+use crate::fault::{Fault, LimitKind, Stop};
+use crate::lines::{line, status};
 use crate::report::{input_line, output_line};
 use av_text::TextKind;
 
@@ -111,6 +112,54 @@ fn a_fault_of_the_links_shows_its_filter_and_pad_or_its_output(rt: HostRuntime) 
         let stop = Stop::Fault(fault);
         assert_eq!(rt; line(stop).as_str(), text);
         assert_eq!(rt; status(stop), 5, "{text}");
+    }
+}
+
+#[test]
+fn a_fault_of_a_file_shows_its_numbers(rt: HostRuntime) {
+    for (fault, code, text) in [
+        (
+            Fault::NotMedia { input: 0 },
+            6,
+            "avgraph: NotMedia input=0\n",
+        ),
+        (
+            Fault::BadHeader { input: 31 },
+            6,
+            "avgraph: BadHeader input=31\n",
+        ),
+        (
+            Fault::BadColour { input: 4294967295 },
+            6,
+            "avgraph: BadColour input=4294967295\n",
+        ),
+        (Fault::NoRate { output: 0 }, 8, "avgraph: NoRate output=0\n"),
+        (
+            Fault::BadFrame { input: 0, frame: 0 },
+            9,
+            "avgraph: BadFrame input=0 frame=0\n",
+        ),
+        (
+            Fault::Truncated {
+                input: 4294967295,
+                place: 18446744073709551615,
+            },
+            9,
+            "avgraph: Truncated input=4294967295 place=18446744073709551615\n",
+        ),
+        (
+            Fault::Limit {
+                kind: LimitKind::Bytes,
+                which: 1,
+                allowed: 1099511627776,
+            },
+            10,
+            "avgraph: Limit kind=bytes which=1 allowed=1099511627776\n",
+        ),
+    ] {
+        let stop = Stop::Fault(fault);
+        assert_eq!(rt; line(stop).as_str(), text);
+        assert_eq!(rt; status(stop), code, "{text}");
     }
 }
 

@@ -3,9 +3,11 @@
 #![tactic(auto)]
 
 mod fault;
+mod lines;
 mod report;
 
-pub use fault::{Fault, LINE_ROOM, LimitKind, Stop, line, status};
+pub use fault::{Fault, LimitKind, Stop};
+pub use lines::{LINE_ROOM, line, status};
 pub use report::{input_line, output_line};
 
 #[cfg(test)]

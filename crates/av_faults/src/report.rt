@@ -3,7 +3,7 @@ ghost use Rattle.std.specs.Prelude.{◌≡◌, ◌≤◌};
 ghost use Rattle.arrayvec.specs.ArrayString.{array_string_len};
 ghost use Rattle.av_faults.specs.Reports.{input_line, output_line};
 
-use crate::fault::{LINE_ROOM, put_number};
+use crate::lines::{LINE_ROOM, put_number};
 use arrayvec::ArrayString;
 
 /// The line of an input, with its line feed: how many frames it gave.

@@ -3,8 +3,12 @@
 /// Why a header was refused.
 #[derive(Clone, Copy, Debug, PartialEq, Eq)]
 pub enum HeadError {
-    /// The input begins with no header of the form.
+    /// The input is no file of this kind.
+    NotMedia,
+    /// The header isn't in order.
     BadHeader,
+    /// The header is in order but for its colour, which is unknown.
+    BadColour,
     /// The header isn't whole within the limit of bytes.
     TooLong,
     /// The host failed, and its count of reads rose in this call.

@@ -1,67 +1,25 @@
 -- Words come to one thing, and a file comes to one thing for what they ask. Out of memory is none of these.
-use Rattle.std.proofs.Common.{◌≡◌, ◌+◌, ℕ, List, [], ◌∷◌, Result, Err, refl, sym, subst, inl, inr}
+use Rattle.std.proofs.Common.{◌≡◌, ◌+◌, ℕ, List, [], ◌∷◌, Result, Err, refl, sym, subst, inl, inr, arith}
 use Rattle.std.specs.List.{AllZip}
-use Rattle.av_base.specs.declared.shapes.Shape.{Shape}
 use Rattle.av_filter.specs.Outcomes.{AfterStep}
-use Rattle.av_frame.specs.declared.refusals.ConfigError.{ConfigError}
-use Rattle.av_frame.specs.declared.refusals.ConfigError.TheVariants as config
 use Rattle.av_frame.specs.declared.refusals.OptionError.{OptionError}
 use Rattle.av_frame.specs.declared.refusals.OptionError.TheVariants as option
 use Rattle.graph_text.specs.Graphs.{IsGraph}
 use Rattle.graph_text.specs.declared.graph.FilterCall.{FilterCall}
 use Rattle.graph_plan.specs.declared.plan.DraftPlan.{DraftPlan}
 use Rattle.graph_plan.specs.declared.plan.Plan.{Plan}
-use Rattle.node_core.specs.FilterLaws.{frame_filter_laws}
 use Rattle.node_core.specs.declared.kind.Kind.{Kind}
 use Rattle.node_core.specs.Kinds.{IsKind, IsKindFault}
-use Rattle.node_core.specs.Shaping.{IsConfigFault}
 use Rattle.node_core.proofs.LawLemmas.{one_meaning}
 use Rattle.av_words.specs.declared.command_words.Command.{Command}
 use Rattle.av_faults.specs.declared.fault.Stop.{Stop}
 use Rattle.av_faults.specs.declared.fault.Stop.TheVariants as stop
-use Rattle.avgraph.specs.Answers.{Answer, IsUnready, ShapeGives, FramesGive, FileGives}
-use Rattle.avgraph.specs.Chains.{Step, AreReady}
 use Rattle.avgraph.specs.Headline.{CommandsHaveOneAnswer}
 use Rattle.avgraph.specs.Requests.{Request, HasTextFault, IsRefusedCall, refuse, AsksPlan, AsksDraft, AsksKinds, AsksCalls, AsksCommand, Asks}
-use Rattle.avgraph.specs.Stops.{option_stop, config_stop}
+use Rattle.avgraph.specs.Stops.{option_stop}
 use Rattle.avgraph.proofs.FileLemmas.{file_gives}
+use Rattle.avgraph.proofs.StatusLemmas.{file_status}
 use Rattle.avgraph.proofs.RequestLemmas.{asks_one, request_known}
-
--- ---- files
-
-config_memory : (n : ℕ) (e : ConfigError) → stop.NoMemory ≡ config_stop n e → e ≡ config.NoMemory
-config_memory n (config.SizeMismatch a b) h = absurd cc
-config_memory n (config.BadGeometry found allowed) h = absurd cc
-config_memory n config.TimeBaseRange h = absurd cc
-config_memory n (config.TooLarge found allowed) h = absurd cc
-config_memory n (config.NoValue k) h = absurd cc
-config_memory n config.NoMemory h = refl
-
-unready_memory : (path : List Step) (s : Shape) → ¬ IsUnready path s stop.NoMemory
-unready_memory [] s h = h
-unready_memory (c ∷ cs) s (inl h) =
-    let refused = h.1 in
-    frame_filter_laws.making.no_memory refused.kind.options s (subst (IsConfigFault refused.kind s) (config_memory c.number h.0 h.2) refused.fault)
-unready_memory (c ∷ cs) s (inr h) = unready_memory cs h.1 h.4
-
-answer_stop : {a b : Stop} → ◌≡◌ {A = Result Answer Stop} (Err a) (Err b) → a ≡ b
-answer_stop e = cc
-
-shape_memory : (limit : ℕ) (path : List Step) (bytes : List ℕ) (s : Shape) → ¬ ShapeGives limit path bytes s (Err stop.NoMemory)
-shape_memory limit path bytes s (inl h) = absurd (let e = h.1 in cc)
-shape_memory limit path bytes s (inr h) = after h.1
-  where
-    after : ¬ AfterStep (IsUnready path s) Err (λ readied. AreReady path s readied.readies readied.end) (FramesGive limit bytes s) (Err stop.NoMemory)
-    after (inl k) = unready_memory path s (subst (IsUnready path s) (sym (answer_stop k.2)) k.1)
-    after (inr k) = frames k.2
-      where
-        frames : ¬ FramesGive limit bytes s k.0 (Err stop.NoMemory)
-        frames (inl f) = absurd (let e = f.1 in cc)
-        frames (inr f) = absurd (let e = f.2 in cc)
-
-file_memory : (limit : ℕ) (path : List Step) (bytes : List ℕ) → ¬ FileGives limit path bytes (Err stop.NoMemory)
-file_memory limit path bytes (inl h) = absurd (let e = h.1 in cc)
-file_memory limit path bytes (inr h) = shape_memory limit path bytes h.0 h.2
 
 -- ---- words
 
@@ -118,6 +76,6 @@ pub commands_have_one_answer : CommandsHaveOneAnswer
 commands_have_one_answer = record {
   words = asks_one;
   words_memory = words_memory;
-  files = λ words request limit bytes is. file_gives limit request.path bytes (request_known words request is);
-  files_memory = file_memory;
+  files = λ words request limit bytes is. file_gives limit request.flow bytes (request_known words request is);
+  files_memory = λ limit flow bytes gives. let high = (file_status limit flow bytes stop.NoMemory gives).1 in omega arith;
 }

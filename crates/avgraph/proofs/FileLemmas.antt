@@ -1,11 +1,9 @@
 -- What a file comes to on a path of filters is one thing, always.
-use Rattle.std.proofs.Common.{◌≡◌, ◌⊎◌, ◌≤◌, ℕ, List, [], ◌∷◌, Result, Ok, Err, length, take, refl, sym, ◌∙◌, ap, subst, arith, inl, inr}
-use Rattle.std.proofs.lemmas.Bool.{cases_order}
-use Rattle.std.proofs.lemmas.List.{take_all}
+use Rattle.std.proofs.Common.{◌≡◌, ◌⊎◌, ℕ, List, [], ◌∷◌, Result, Ok, Err, refl, sym, ◌∙◌, ap, subst, arith, inl, inr}
+use Rattle.std.proofs.lemmas.Bool.{cases_lt}
 use Rattle.av_base.specs.declared.shapes.Shape.{Shape}
-use Rattle.av_base.specs.declared.formats.Format.{Format}
 use Rattle.av_base.specs.Shapes.{IsPictureShape}
-use Rattle.av_filter.specs.Outcomes.{IsOne, HasOne, AfterStep, after_value, after_check, after_step, alike_one, ends_one}
+use Rattle.av_filter.specs.Outcomes.{IsOne, HasOne, after_check, after_step, alike_one, ends_one}
 use Rattle.av_frame.specs.Frames.{FrameValue}
 use Rattle.av_frame.specs.declared.refusals.ConfigError.{ConfigError}
 use Rattle.graph_text.specs.declared.graph.FilterCall.{FilterCall}
@@ -15,18 +13,20 @@ use Rattle.node_core.specs.Filters.{frame_filters}
 use Rattle.node_core.specs.FilterLaws.{frame_filter_laws}
 use Rattle.node_core.specs.Kinds.{IsKind}
 use Rattle.node_core.proofs.LawLemmas.{one_meaning, one_outcome}
-use Rattle.y4m_io.specs.Files.{IsFile}
-use Rattle.y4m_io.specs.FrameTexts.{frames_text}
-use Rattle.y4m_io.specs.HeaderTexts.{BeginsHeader}
-use Rattle.y4m_io.proofs.LineLemmas.{header_unique}
-use Rattle.y4m_io.proofs.HeaderLemmas.{header_readable}
-use Rattle.y4m_io.proofs.LawLemmas.{one_reading}
-use Rattle.y4m_io.proofs.DecidedLemmas.{files_are_decided}
-use Rattle.av_faults.specs.declared.fault.Fault.TheVariants.{NotYet, NoCommonFormat}
+use Rattle.av_frame.specs.declared.faults.HeadError.{HeadError}
+use Rattle.av_frame.specs.declared.faults.NextError.{NextError}
+use Rattle.av_base.specs.declared.shapes.Props.{Props}
+use Rattle.av_base.specs.declared.shapes.Props.TheVariants as props
+use Rattle.y4m_io.specs.Heads.{HasHead, IsHeadFault, HeadMeans}
+use Rattle.y4m_io.specs.Files.{HasFrames, FramesMean}
+use Rattle.y4m_io.proofs.Examples.{files_law, head_pictured}
+use Rattle.av_faults.specs.declared.fault.Fault.TheVariants.{NoCommonFormat, NoRate}
 use Rattle.av_faults.specs.declared.fault.Stop.{Stop}
-use Rattle.avgraph.specs.Chains.{Step, IsReadied, AreReady}
-use Rattle.avgraph.specs.Stops.{config_stop}
-use Rattle.avgraph.specs.Answers.{Readied, answer_of, TakesFormat, AreTaking, IsRefused, IsUnready, HasHead, HasFrames, reject, FramesGive, ShapeGives, FileGives}
+use Rattle.avgraph.specs.Chains.{Step, Flow, IsReadied, AreReady}
+use Rattle.avgraph.specs.Stops.{config_stop, head_stop, next_stop}
+use Rattle.avgraph.specs.Answers.{Readied, answer_of, IsRefused, IsUnready, LacksFormats, HasFormats, HasRate, IsDamaged, reject, stops_with, FramesGive, RateGives, ReadyGives, ShapeGives, FileGives}
+use Rattle.avgraph.specs.Readying.{AreTaking}
+use Rattle.avgraph.proofs.FormatLemmas.{IsKnownFlow, formats_or_none, formats_apart, lacks_one, formats_taking}
 
 -- ---- one filter
 
@@ -157,81 +157,64 @@ path_takes (c ∷ cs) s t [] p = absurd p
 path_takes (c ∷ cs) s t (r ∷ rs) p =
     ((p.0.kind, p.0.is_kind, p.0.takes), subst (AreTaking cs) (readied_format c.call s p.1.0 r p.0 p.1.1) (path_takes cs p.1.0 t rs p.1.2))
 
--- ---- formats
-
--- each call of the path means a filter
-abbrev pub AreKnown : List Step → Type 0
-AreKnown [] = Unit {0}
-AreKnown (step ∷ steps) = ((kind : Kind) × IsKind step.call kind) × AreKnown steps
-
-takes_or_not : (step : Step) (f : Format) → (kind : Kind) × IsKind step.call kind → TakesFormat f step ⊎ ¬ TakesFormat f step
-takes_or_not step f known = elim (frame_filter_laws.making.decided known.0.options f) [
-  | inl takes ↦ inl (known.0, known.1, takes)
-  | inr none ↦ inr (λ h. none ((one_meaning.one step.call h.0 known.0 h.1 known.1).takes f h.2))
-]
-
-taking_or_not : (path : List Step) (f : Format) → AreKnown path → AreTaking path f ⊎ ¬ AreTaking path f
-taking_or_not [] f known = inl tt
-taking_or_not (step ∷ steps) f known = elim (takes_or_not step f known.0) [
-  | inr none ↦ inr (λ h. none h.0)
-  | inl takes ↦ elim (taking_or_not steps f known.1) [ inl others ↦ inl (takes, others) | inr none ↦ inr (λ h. none h.1) ]
-]
-
--- ---- files
-
-head_one : (limit : ℕ) (bytes : List ℕ) → IsOne (HasHead limit bytes)
-head_one limit bytes s t p q =
-    let a = p.0 in
-    let b = q.0 in
-    let same = header_unique a.rest b.rest a.header b.header (sym a.text_is ∙ b.text_is) in
-    sym p.1 ∙ (same.1 ∙ q.1)
-
-head_picture : (limit : ℕ) (bytes : List ℕ) (s : Shape) → HasHead limit bytes s → IsPictureShape s
-head_picture limit bytes s p = subst IsPictureShape p.1 (let r = header_readable p.0.header in record { lawful = r.lawful; video = r.video })
-
-head_or_not : (limit : ℕ) (bytes : List ℕ) → (¬ BeginsHeader (take limit bytes)) ⊎ ((s : Shape) × HasHead limit bytes s)
-head_or_not limit bytes = elim (files_are_decided.header (take limit bytes)) [ inl h ↦ inr (h.shape, (h, refl)) | inr none ↦ inl none ]
-
-at_most : (m n : ℕ) → (m ≤ n) ⊎ ¬ (m ≤ n)
-at_most m n = elim (cases_order m n) [
-  | inl e ↦ inl (omega arith)
-  | inr apart ↦ elim apart [ inl less ↦ inl (omega arith) | inr more ↦ inr (λ h. absurd (omega arith)) ]
-]
-
-frames_one : (limit : ℕ) (bytes : List ℕ) (s : Shape) → IsOne (HasFrames limit bytes s)
-frames_one limit bytes s a b p q = sym ((one_reading bytes s s a b p.0 q.0).1)
-
--- a file whose header is of a shape is a file of that shape
-head_shape : (limit : ℕ) (bytes : List ℕ) (s t : Shape) (frames : List FrameValue) → HasHead limit bytes s → length bytes ≤ limit → IsFile bytes t frames → t ≡ s
-head_shape limit bytes s t frames p within is =
-    let head = p.0 in
-    let same = header_unique head.rest (frames_text frames) head.header is.header (sym head.text_is ∙ (take_all limit bytes within ∙ is.text)) in
-    sym same.1 ∙ p.1
-
-frames_or_not : (limit : ℕ) (bytes : List ℕ) (s : Shape) → HasHead limit bytes s → ((frames : List FrameValue) → ¬ HasFrames limit bytes s frames) ⊎ ((frames : List FrameValue) × HasFrames limit bytes s frames)
-frames_or_not limit bytes s head = elim (at_most (length bytes) limit) [
-  | inr long ↦ inl (λ frames h. long h.1)
-  | inl within ↦ elim (files_are_decided.file bytes) [
-    | inr none ↦ inl (λ frames h. none s frames h.0)
-    | inl is ↦ inr (is.1, (subst (λ (t : Shape). IsFile bytes t is.1) (head_shape limit bytes s is.0 is.1 head within is.2) is.2, within))
-  ]
-]
-
 -- ---- each step
+
+rate_or_not : (p : Props) → HasRate p ⊎ ¬ HasRate p
+rate_or_not (props.Video p) = elim (cases_lt 0 p.rate.num) [ inl some ↦ inl some | inr none ↦ inr (λ h. omega arith) ]
+rate_or_not (props.Audio p) = inr (λ h. h)
+
+frames_or_damage : (limit : ℕ) (bytes : List ℕ) (s : Shape) → (r : Result (List FrameValue) (List FrameValue × NextError)) → FramesMean limit bytes s r
+    → ((frames : List FrameValue) × HasFrames limit bytes s frames) ⊎ ((damage : List FrameValue × NextError) × IsDamaged limit bytes s damage)
+frames_or_damage limit bytes s (Ok frames) h = inl (frames, h)
+frames_or_damage limit bytes s (Err damage) h = inr (damage, h)
+
+ok_is : {a b : List FrameValue} → ◌≡◌ {A = Result (List FrameValue) (List FrameValue × NextError)} (Ok a) (Ok b) → a ≡ b
+ok_is e = cc
+
+damage_is : {a b : List FrameValue × NextError} → ◌≡◌ {A = Result (List FrameValue) (List FrameValue × NextError)} (Err a) (Err b) → a ≡ b
+damage_is e = cc
 
 frames_give : (limit : ℕ) (bytes : List ℕ) (s : Shape) (readied : Readied) → HasHead limit bytes s → HasOne (FramesGive limit bytes s readied)
 frames_give limit bytes s readied head =
-    after_value ((frames : List FrameValue) → ¬ HasFrames limit bytes s frames) (reject NotYet) (HasFrames limit bytes s) (λ frames r. r ≡ Ok (answer_of readied frames))
-    (frames_or_not limit bytes s head) (frames_one limit bytes s) (λ frames has none. none frames has) (λ frames has. ends_one (Ok (answer_of readied frames)))
+    let some = files_law.frames limit bytes s head in
+    after_step (IsDamaged limit bytes s) (stops_with (λ damage. next_stop limit damage.1)) (HasFrames limit bytes s) (λ frames r. r ≡ Ok (answer_of readied frames))
+    (frames_or_damage limit bytes s some.0 some.1) (λ a b p q. damage_is (files_law.one_frames limit bytes s (Err a) (Err b) p q))
+    (λ frames damage p q. let e = files_law.one_frames limit bytes s (Ok frames) (Err damage) p q in cc)
+    (alike_one (HasFrames limit bytes s) (λ frames r. r ≡ Ok (answer_of readied frames)) (λ a b p q. ok_is (files_law.one_frames limit bytes s (Ok a) (Ok b) p q)))
+    (λ frames has. ends_one (Ok (answer_of readied frames)))
 
-shape_gives : (limit : ℕ) (path : List Step) (bytes : List ℕ) (s : Shape) → AreKnown path → HasHead limit bytes s → HasOne (ShapeGives limit path bytes s)
-shape_gives limit path bytes s known head =
-    after_check (AreTaking path s.format) (reject (NoCommonFormat 0)) (AfterStep (IsUnready path s) Err (λ readied. AreReady path s readied.readies readied.end) (FramesGive limit bytes s)) (taking_or_not path s.format known)
-    (λ taking. after_step (IsUnready path s) Err (λ readied. AreReady path s readied.readies readied.end) (FramesGive limit bytes s)
-    (ready_or_unready path s (head_picture limit bytes s head) taking) (unready_one path s) (λ readied stops ready unready. path_or_unready path s readied.end readied.readies stops ready unready)
-    (alike_one (λ (readied : Readied). AreReady path s readied.readies readied.end) (FramesGive limit bytes s) (readied_one path s)) (λ readied ready. frames_give limit bytes s readied head))
+rate_gives : (limit : ℕ) (bytes : List ℕ) (s : Shape) (readied : Readied) → HasHead limit bytes s → HasOne (RateGives limit bytes s readied)
+rate_gives limit bytes s readied head = after_check (HasRate readied.end.props) (reject (NoRate 0)) (FramesGive limit bytes s readied) (rate_or_not readied.end.props) (λ rate. frames_give limit bytes s readied head)
 
-pub file_gives : (limit : ℕ) (path : List Step) (bytes : List ℕ) → AreKnown path → HasOne (FileGives limit path bytes)
-file_gives limit path bytes known =
-    after_value (¬ BeginsHeader (take limit bytes)) (reject NotYet) (HasHead limit bytes) (ShapeGives limit path bytes)
-    (head_or_not limit bytes) (head_one limit bytes) (λ s head none. none head.0) (λ s head. shape_gives limit path bytes s known head)
+ready_gives : (limit : ℕ) (flow : Flow) (bytes : List ℕ) (s : Shape) → AreTaking flow.path s.format → HasHead limit bytes s → HasOne (ReadyGives limit flow bytes s)
+ready_gives limit flow bytes s taking head =
+    let pictured = head_pictured limit bytes s head in
+    after_step (IsUnready flow.path s) Err (λ readied. AreReady flow.path s readied.readies readied.end) (RateGives limit bytes s)
+    (ready_or_unready flow.path s (record { lawful = pictured.lawful; video = pictured.video }) taking) (unready_one flow.path s)
+    (λ readied stops ready unready. path_or_unready flow.path s readied.end readied.readies stops ready unready)
+    (alike_one (λ (readied : Readied). AreReady flow.path s readied.readies readied.end) (RateGives limit bytes s) (readied_one flow.path s)) (λ readied ready. rate_gives limit bytes s readied head)
+
+shape_gives : (limit : ℕ) (flow : Flow) (bytes : List ℕ) (s : Shape) → IsKnownFlow flow → HasHead limit bytes s → HasOne (ShapeGives limit flow bytes s)
+shape_gives limit flow bytes s known head =
+    after_step (LacksFormats flow s.format) (λ link. reject (NoCommonFormat link)) (HasFormats flow s.format) (λ formats. ReadyGives limit flow bytes s)
+    (formats_or_none flow s.format known) (lacks_one flow s.format) (λ formats link has lacks. formats_apart flow s.format formats link has lacks)
+    (λ x y r p q h. h) (λ formats has. ready_gives limit flow bytes s (formats_taking flow s.format formats known has).0 head)
+
+head_or_fault : (limit : ℕ) (bytes : List ℕ) (r : Result Shape HeadError) → HeadMeans limit bytes r → ((s : Shape) × HasHead limit bytes s) ⊎ ((e : HeadError) × IsHeadFault limit bytes e)
+head_or_fault limit bytes (Ok s) h = inl (s, h)
+head_or_fault limit bytes (Err e) h = inr (e, h)
+
+shape_is : {a b : Shape} → ◌≡◌ {A = Result Shape HeadError} (Ok a) (Ok b) → a ≡ b
+shape_is e = cc
+
+fault_is : {a b : HeadError} → ◌≡◌ {A = Result Shape HeadError} (Err a) (Err b) → a ≡ b
+fault_is e = cc
+
+pub file_gives : (limit : ℕ) (flow : Flow) (bytes : List ℕ) → IsKnownFlow flow → HasOne (FileGives limit flow bytes)
+file_gives limit flow bytes known =
+    let some = files_law.head limit bytes in
+    after_step (IsHeadFault limit bytes) (stops_with (head_stop limit)) (HasHead limit bytes) (ShapeGives limit flow bytes)
+    (head_or_fault limit bytes some.0 some.1) (λ a b p q. fault_is (files_law.one_head limit bytes (Err a) (Err b) p q))
+    (λ s e p q. let same = files_law.one_head limit bytes (Ok s) (Err e) p q in cc)
+    (alike_one (HasHead limit bytes) (ShapeGives limit flow bytes) (λ a b p q. shape_is (files_law.one_head limit bytes (Ok a) (Ok b) p q)))
+    (λ s head. shape_gives limit flow bytes s known head)

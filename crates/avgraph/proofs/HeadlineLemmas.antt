@@ -1,30 +1,27 @@
 -- From the files and the printing to the clauses of the top call.
-use Rattle.std.proofs.Common.{◌≡◌, ◌≢◌, ◌⊎◌, ℕ, Bool, true, false, IsTrue, List, [], ◌++◌, take, length, Result, Ok, Err, OnOk, OnErr, MatchResult, refl, ap, sym, ◌∙◌, subst, arith, inl, inr}
+use Rattle.std.proofs.Common.{◌≡◌, ◌≢◌, ◌<◌, ◌≤◌, ◌⊎◌, ℕ, Bool, true, false, IsTrue, List, [], ◌++◌, take, length, Result, Ok, Err, OnOk, OnErr, MatchResult, refl, ap, sym, ◌∙◌, subst, arith, inl, inr}
 use Rattle.std.proofs.Math.Seq.{take-length}
-use Rattle.std.proofs.lemmas.List.{append-nil, take_all}
-use Rattle.av_filter.specs.Outcomes.{AfterStep}
 use Rattle.av_host.specs.World.{World, Inputs, Outputs, Faults}
 use Rattle.av_host.specs.Calls.{Says, Rises, RaisesSayings}
 use Rattle.av_host.specs.declared.host.Failed.{Failed}
 use Rattle.av_host.specs.HostRuns.{SaysPart}
-use Rattle.y4m_io.specs.FrameTexts.{frames_text}
 use Rattle.av_faults.specs.declared.fault.Fault.TheVariants.{OpenFault, ReadFault, WriteFault}
 use Rattle.av_faults.specs.declared.fault.Stop.{Stop}
 use Rattle.av_faults.specs.declared.fault.Stop.TheVariants as stop
-use Rattle.av_faults.specs.Faults.{stop_line, stop_status, IsOfWords, IsOfFile}
+use Rattle.av_faults.specs.Faults.{stop_line, stop_status, IsOfWords, IsOfFile, IsOfLimit}
 use Rattle.av_faults.specs.Reports.{input_line, output_line}
 use Rattle.avgraph.specs.declared.report.Counts.{Counts}
 use Rattle.avgraph.specs.declared.report.Done.{Done}
 use Rattle.av_base.specs.declared.shapes.Shape.{Shape}
 use Rattle.y4m_io.specs.Files.{whole_text}
-use Rattle.avgraph.specs.Chains.{Step, AreReady, through}
-use Rattle.avgraph.specs.Answers.{Answer, Readied, report_text, IsUnready, FramesGive, ShapeGives, FileGives}
+use Rattle.avgraph.specs.Chains.{Flow, AreReady, through}
+use Rattle.avgraph.specs.Answers.{Answer, Readied, report_text, FramesGive, RateGives, ReadyGives, ShapeGives, FileGives}
 use Rattle.avgraph.specs.Requests.{Request, Asks}
-use Rattle.avgraph.specs.Stops.{CountsStop}
-use Rattle.avgraph.specs.Commands.{MayHold, AreReadToEnd, AreCounts, HeadIsRead, Commands, KeepsInputs, Finishes, IsBegun, Stops}
+use Rattle.avgraph.specs.Stops.{IsHostStop, CountsStop}
+use Rattle.avgraph.specs.Commands.{MayHold, AreReadToEnd, AreCounts, HeadIsRead, Commands, KeepsInputs, Finishes, IsBegun, Ends, Refused, Interrupted, Spoiled}
 use Rattle.avgraph.specs.Headline.{Prints, counts_text, Reports, counts_of, WantsReport, Obeys, Stopped, Starved, Ran, StopsAt, Refuses, SaysText, Holds, IsDone, IsNamed, HasStatus, HasConclusion, Concludes, HasCause, IsQuiet, IsCreated, Keeps, SaysStatus}
-use Rattle.avgraph.proofs.RequestLemmas.{asks_one, asks_counts, request_known}
-use Rattle.avgraph.proofs.ReadyLemmas.{file_fault}
+use Rattle.avgraph.proofs.RequestLemmas.{asks_one, asks_counts, asks_no_file, request_known}
+use Rattle.avgraph.proofs.StatusLemmas.{file_status}
 use Rattle.avgraph.proofs.FileLemmas.{file_gives}
 
 -- ---- what is printed
@@ -159,29 +156,34 @@ some_status (stop.Fault OpenFault) e = omega arith
 some_status (stop.Fault fault) e = omega arith
 some_status stop.NoMemory e = omega arith
 
--- a status is of words only if it is one of these, and of a file only if it is one of those
-not_words : (n : ℕ) → n ≢ 2 → n ≢ 3 → n ≢ 4 → n ≢ 5 → n ≢ 10 → ¬ IsOfWords n
-not_words n a b c d f (inl e) = a e
-not_words n a b c d f (inr (inl e)) = b e
-not_words n a b c d f (inr (inr (inl e))) = c e
-not_words n a b c d f (inr (inr (inr (inl e)))) = d e
-not_words n a b c d f (inr (inr (inr (inr e)))) = f e
+-- the numbers of statuses of words, and of files
+words_are : {n : ℕ} → IsOfWords n → (n < 6) ⊎ (n ≡ 15)
+words_are (inl e) = inl (omega arith)
+words_are (inr (inl e)) = inl (omega arith)
+words_are (inr (inr (inl e))) = inl (omega arith)
+words_are (inr (inr (inr (inl e)))) = inl (omega arith)
+words_are (inr (inr (inr (inr e)))) = inr e
 
-not_file : (n : ℕ) → n ≢ 7 → n ≢ 8 → n ≢ 15 → ¬ IsOfFile n
-not_file n a b c (inl e) = a e
-not_file n a b c (inr (inl e)) = b e
-not_file n a b c (inr (inr e)) = c e
+some_words : {n : ℕ} → IsOfWords n → 0 < n
+some_words (inl e) = omega arith
+some_words (inr (inl e)) = omega arith
+some_words (inr (inr (inl e))) = omega arith
+some_words (inr (inr (inr (inl e)))) = omega arith
+some_words (inr (inr (inr (inr e)))) = omega arith
 
-words_or_file : (n : ℕ) → IsOfWords n → IsOfFile n → ⊥
-words_or_file n h (inl e) = not_words n (λ d. omega arith) (λ d. omega arith) (λ d. omega arith) (λ d. omega arith) (λ d. omega arith) h
-words_or_file n h (inr (inl e)) = not_words n (λ d. omega arith) (λ d. omega arith) (λ d. omega arith) (λ d. omega arith) (λ d. omega arith) h
-words_or_file n h (inr (inr e)) = not_words n (λ d. omega arith) (λ d. omega arith) (λ d. omega arith) (λ d. omega arith) (λ d. omega arith) h
+files_are : {n : ℕ} → IsOfFile n → (6 ≤ n) × (n ≤ 9)
+files_are (inl e) = (omega arith, omega arith)
+files_are (inr (inl e)) = (omega arith, omega arith)
+files_are (inr (inr (inl e))) = (omega arith, omega arith)
+files_are (inr (inr (inr e))) = (omega arith, omega arith)
 
-other_words : {s : ℕ} {A : Type 0} (n : ℕ) → s ≡ n → ¬ IsOfWords n → IsOfWords s → A
-other_words n e none h = absurd (none (subst IsOfWords e h))
-
-other_file : {s : ℕ} {A : Type 0} (n : ℕ) → s ≡ n → ¬ IsOfFile n → IsOfFile s → A
-other_file n e none h = absurd (none (subst IsOfFile e h))
+-- the statuses of failed calls, and of out of memory
+host_status : (stops : Stop) → IsHostStop stops → (11 ≤ stop_status stops) × (stop_status stops ≤ 14)
+host_status (stop.Fault OpenFault) h = (omega arith, omega arith)
+host_status (stop.Fault ReadFault) h = (omega arith, omega arith)
+host_status (stop.Fault WriteFault) h = (omega arith, omega arith)
+host_status stop.NoMemory h = (omega arith, omega arith)
+host_status (stop.Fault other) h = absurd h
 
 -- ---- what stops the words
 
@@ -194,39 +196,51 @@ answer_is : {a b : Answer} → ◌≡◌ {A = Result Answer Stop} (Ok a) (Ok b) 
 answer_is e = cc
 
 -- a whole answer is a beginning of itself
-begun_whole : {limit : ℕ} {path : List Step} {bytes : List ℕ} {answer : Answer} → FileGives limit path bytes (Ok answer) → IsBegun limit path bytes answer.out
-begun_whole (inl h) = absurd (let e = h.1 in cc)
-begun_whole {limit} {path} {bytes} {answer} (inr h) = by_shape h.0 h.2
+begun_whole : {limit : ℕ} {flow : Flow} {bytes : List ℕ} {answer : Answer} → FileGives limit flow bytes (Ok answer) → IsBegun limit flow bytes answer.out
+begun_whole {limit} {flow} {bytes} {answer} (inl h) = absurd (let e = h.2 in cc)
+begun_whole {limit} {flow} {bytes} {answer} (inr h) = by_shape h.0 h.2
   where
-    by_frames : (s : Shape) (readied : Readied) → AreReady path s readied.readies readied.end → FramesGive limit bytes s readied (Ok answer) → IsBegun limit path bytes answer.out
-    by_frames s readied ready (inl g) = absurd (let e = g.1 in cc)
+    by_frames : (s : Shape) (readied : Readied) → AreReady flow.path s readied.readies readied.end → FramesGive limit bytes s readied (Ok answer) → IsBegun limit flow bytes answer.out
+    by_frames s readied ready (inl g) = absurd (let e = g.2 in cc)
     by_frames s readied ready (inr g) =
-        let file = g.1.0 in
         let out : answer.out ≡ whole_text readied.end (through readied.readies g.0) = ap (λ (a : Answer). a.out) (answer_is g.2) in
         record {
           shape = s;
           frames = g.0;
+          rest = [];
           readies = readied.readies;
           end = readied.end;
           count = length answer.out;
           ready = ready;
-          file = record {
-            line = file.line;
-            rest = [];
-            header = file.header;
-            are_frames = file.are_frames;
-            text = take_all limit bytes g.1.1 ∙ (file.text ∙ ap (λ (z : List ℕ). file.line ++ z) (sym (append-nil (frames_text g.0))));
-          };
+          file = g.1;
           put_is = sym (take-length answer.out) ∙ ap (take (length answer.out)) out;
         }
 
-    by_shape : (s : Shape) → ShapeGives limit path bytes s (Ok answer) → IsBegun limit path bytes answer.out
-    by_shape s (inl g) = absurd (let e = g.1 in cc)
-    by_shape s (inr g) = after g.1
-      where
-        after : AfterStep (IsUnready path s) Err (λ readied. AreReady path s readied.readies readied.end) (FramesGive limit bytes s) (Ok answer) → IsBegun limit path bytes answer.out
-        after (inl f) = absurd (let e = f.2 in cc)
-        after (inr f) = by_frames s f.0 f.1 f.2
+    by_rate : (s : Shape) (readied : Readied) → AreReady flow.path s readied.readies readied.end → RateGives limit bytes s readied (Ok answer) → IsBegun limit flow bytes answer.out
+    by_rate s readied ready (inl g) = absurd (let e = g.1 in cc)
+    by_rate s readied ready (inr g) = by_frames s readied ready g.1
+
+    by_ready : (s : Shape) → ReadyGives limit flow bytes s (Ok answer) → IsBegun limit flow bytes answer.out
+    by_ready s (inl g) = absurd (let e = g.2 in cc)
+    by_ready s (inr g) = by_rate s g.0 g.1 g.2
+
+    by_shape : (s : Shape) → ShapeGives limit flow bytes s (Ok answer) → IsBegun limit flow bytes answer.out
+    by_shape s (inl g) = absurd (let e = g.2 in cc)
+    by_shape s (inr g) = by_ready s g.2
+
+-- what stops a request, but for failed calls and memory, stops the file
+given_of : {limit : ℕ} {request : Request} {old mid : World} {stops : Stop} → Ends limit request old mid stops → ¬ IsHostStop stops → MayHold (old.held request.input) (λ bytes. FileGives limit request.flow bytes (Err stops))
+given_of (Refused l (inl host)) none = absurd (none host)
+given_of (Refused l (inr h)) none = h.may
+given_of (Interrupted host b) none = absurd (none host)
+given_of (Spoiled b) none = (b.0, b.1, b.2.gives)
+
+-- its status is that of a file, of a failed call, or of out of memory
+ends_status : {limit : ℕ} {request : Request} {old mid : World} {stops : Stop} → Ends limit request old mid stops → (6 ≤ stop_status stops) × (stop_status stops ≤ 14)
+ends_status {stops = stops} (Refused l (inl host)) = let h = host_status stops host in (let low = h.0 in omega arith, h.1)
+ends_status {limit} {request} {stops = stops} (Refused l (inr h)) = let f = file_status limit request.flow h.may.0 stops h.may.2 in (f.0, let high = f.1 in omega arith)
+ends_status {stops = stops} (Interrupted host b) = let h = host_status stops host in (let low = h.0 in omega arith, h.1)
+ends_status {limit} {request} {stops = stops} (Spoiled b) = let f = file_status limit request.flow b.0 stops b.2.gives in (f.0, let high = f.1 in omega arith)
 
 -- two things that stop words are the same
 same_stops : {a b : Stop} → ◌≡◌ {A = Result Request Stop} (Err a) (Err b) → a ≡ b
@@ -241,41 +255,68 @@ module _ (limit : ℕ) (words : List (List ℕ)) (outcome : Result Done Stop) (o
 
   pub stands : Obeys limit words old mid outcome → Reports mid new outcome status → IsOfWords status → (stops : Stop) × Asks words (Err stops) × StopsAt old new stops status
   stands (Stopped other asks e same) r s = (other, asks, stopped_at outcome other old mid new status e same r)
-  stands (Starved e same) r s = other_words 14 (stopped_at outcome stop.NoMemory old mid new status e same r).0 (not_words 14 (λ d. omega arith) (λ d. omega arith) (λ d. omega arith) (λ d. omega arith) (λ d. omega arith)) s
+  stands (Starved e same) r s = absurd (let at = (stopped_at outcome stop.NoMemory old mid new status e same r).0 in elim (words_are s) [ inl less ↦ omega arith | inr is ↦ omega arith ])
   stands (Ran request asks k wants counts said) r s = absurd (by_outcome outcome k r)
     where
       by_outcome : (o : Result Done Stop) → Commands limit request old mid (counts_of o) → Reports mid new o status → ⊥
-      by_outcome (Ok done) k r = other_words 0 r.0 (not_words 0 (λ d. omega arith) (λ d. omega arith) (λ d. omega arith) (λ d. omega arith) (λ d. omega arith)) s
-      by_outcome (Err (stop.Fault OpenFault)) k r = other_words 11 r.0 (not_words 11 (λ d. omega arith) (λ d. omega arith) (λ d. omega arith) (λ d. omega arith) (λ d. omega arith)) s
-      by_outcome (Err (stop.Fault ReadFault)) k r = other_words 12 r.0 (not_words 12 (λ d. omega arith) (λ d. omega arith) (λ d. omega arith) (λ d. omega arith) (λ d. omega arith)) s
-      by_outcome (Err (stop.Fault WriteFault)) k r = other_words 13 r.0 (not_words 13 (λ d. omega arith) (λ d. omega arith) (λ d. omega arith) (λ d. omega arith) (λ d. omega arith)) s
-      by_outcome (Err (stop.Fault fault)) k r = words_or_file (stop_status (stop.Fault fault)) (subst IsOfWords r.0 s) (file_fault limit request.path k.1.0 fault k.1.2)
-      by_outcome (Err stop.NoMemory) k r = other_words 14 r.0 (not_words 14 (λ d. omega arith) (λ d. omega arith) (λ d. omega arith) (λ d. omega arith) (λ d. omega arith)) s
+      by_outcome (Ok done) k r = let some = some_words s in let zero_is = r.0 in omega arith
+      by_outcome (Err stops) k r = let at = ends_status k in let low = at.0 in let high = at.1 in let is = r.0 in elim (words_are s) [ inl less ↦ omega arith | inr e ↦ omega arith ]
 
   -- ---- what stops the file
 
-  pub names : Obeys limit words old mid outcome → Reports mid new outcome status → IsOfFile status
-      → ((stops : Stop) × Asks words (Err stops) × StopsAt old new stops status) ⊎ ((request : Request) × Asks words (Ok request) × MayHold (old.held request.input) (IsNamed limit request old new status))
-  names (Stopped other asks e same) r s = inl (other, asks, stopped_at outcome other old mid new status e same r)
-  names (Starved e same) r s = other_file 14 (stopped_at outcome stop.NoMemory old mid new status e same r).0 (not_file 14 (λ d. omega arith) (λ d. omega arith) (λ d. omega arith)) s
-  names (Ran request asks k wants counts said) r s = inr (request, asks, by_outcome outcome k counts r)
+  -- a status of a file is that of one which the input may be
+  named : (request : Request) → Commands limit request old mid (counts_of outcome) → CountsStop outcome old.faults mid.faults → mid.said ≡ old.said → Reports mid new outcome status → 6 ≤ status → status ≤ 10
+      → MayHold (old.held request.input) (IsNamed limit request old new status)
+  named request k counts said r low high = by_outcome outcome k counts r
     where
-      by_outcome : (o : Result Done Stop) → Commands limit request old mid (counts_of o) → CountsStop o old.faults mid.faults → Reports mid new o status → MayHold (old.held request.input) (IsNamed limit request old new status)
-      by_outcome (Ok done) k n r = other_file 0 r.0 (not_file 0 (λ d. omega arith) (λ d. omega arith) (λ d. omega arith)) s
-      by_outcome (Err (stop.Fault OpenFault)) k n r = other_file 11 r.0 (not_file 11 (λ d. omega arith) (λ d. omega arith) (λ d. omega arith)) s
-      by_outcome (Err (stop.Fault ReadFault)) k n r = other_file 12 r.0 (not_file 12 (λ d. omega arith) (λ d. omega arith) (λ d. omega arith)) s
-      by_outcome (Err (stop.Fault WriteFault)) k n r = other_file 13 r.0 (not_file 13 (λ d. omega arith) (λ d. omega arith) (λ d. omega arith)) s
-      by_outcome (Err (stop.Fault fault)) k n r = (
-        k.1.0,
-        k.1.1,
+      by_ends : (stops : Stop) → Ends limit request old mid stops → mid.faults.sayings ≡ old.faults.sayings → Reports mid new (Err stops) status → MayHold (old.held request.input) (IsNamed limit request old new status)
+      by_ends stops (Refused l (inl host)) n r = absurd (let h = (host_status stops host).0 in let is = r.0 in omega arith)
+      by_ends stops (Refused l (inr h)) n r = (
+        h.may.0,
+        h.may.1,
         record {
-          stops = stop.Fault fault;
-          gives = k.1.2;
+          stops = stops;
+          gives = h.may.2;
           status_is = r.0;
-          said = says_text old mid new (stop_line (stop.Fault fault)) said (ap (λ (f : Faults). f.sayings) n) r.1;
+          said = says_text old mid new (stop_line stops) said n r.1;
+          good = λ nine. absurd (h.no_damage (sym r.0 ∙ nine));
         },
       )
-      by_outcome (Err stop.NoMemory) k n r = other_file 14 r.0 (not_file 14 (λ d. omega arith) (λ d. omega arith) (λ d. omega arith)) s
+      by_ends stops (Interrupted host b) n r = absurd (let h = (host_status stops host).0 in let is = r.0 in omega arith)
+      by_ends stops (Spoiled b) n r =
+          let files = printed (Err stops) mid new status r in (
+            b.0,
+            b.1,
+            record {
+              stops = stops;
+              gives = b.2.gives;
+              status_is = r.0;
+              said = says_text old mid new (stop_line stops) said n r.1;
+              good = λ nine. (b.2.out, b.2.is_good, subst (λ (u : Outputs). Holds old.outputs u request.output b.2.out) (sym files.2) b.2.leaves.content);
+            },
+          )
+
+      sayings : (stops : Stop) → CountsStop {T = Done} (Err stops) old.faults mid.faults → mid.faults.sayings ≡ old.faults.sayings
+      sayings (stop.Fault OpenFault) n = n.sayings
+      sayings (stop.Fault ReadFault) n = n.sayings
+      sayings (stop.Fault WriteFault) n = n.sayings
+      sayings other n = ap (λ (f : Faults). f.sayings) n
+
+      by_outcome : (o : Result Done Stop) → Commands limit request old mid (counts_of o) → CountsStop o old.faults mid.faults → Reports mid new o status → MayHold (old.held request.input) (IsNamed limit request old new status)
+      by_outcome (Ok done) k n r = absurd (let is = r.0 in omega arith)
+      by_outcome (Err stops) k n r = by_ends stops k (sayings stops n) r
+
+  pub names : Obeys limit words old mid outcome → Reports mid new outcome status → IsOfFile status → (request : Request) × Asks words (Ok request) × MayHold (old.held request.input) (IsNamed limit request old new status)
+  names (Stopped other asks e same) r s =
+      absurd (let at = (stopped_at outcome other old mid new status e same r).0 in let file = files_are s in let low = file.0 in let high = file.1 in elim (asks_no_file words other asks) [ inl less ↦ omega arith | inr more ↦ omega arith ])
+  names (Starved e same) r s = absurd (let at = (stopped_at outcome stop.NoMemory old mid new status e same r).0 in let high = (files_are s).1 in omega arith)
+  names (Ran request asks k wants counts said) r s = let file = files_are s in (request, asks, named request k counts said r file.0 (let high = file.1 in omega arith))
+
+  pub limits : Obeys limit words old mid outcome → Reports mid new outcome status → IsOfLimit status
+      → ((stops : Stop) × Asks words (Err stops) × StopsAt old new stops status) ⊎ ((request : Request) × Asks words (Ok request) × MayHold (old.held request.input) (IsNamed limit request old new status))
+  limits (Stopped other asks e same) r s = inl (other, asks, stopped_at outcome other old mid new status e same r)
+  limits (Starved e same) r s = absurd (let at = (stopped_at outcome stop.NoMemory old mid new status e same r).0 in omega arith)
+  limits (Ran request asks k wants counts said) r s = inr (request, asks, named request k counts said r (omega arith) (omega arith))
 
   -- ---- the result
 
@@ -316,7 +357,7 @@ module _ (limit : ℕ) (words : List (List ℕ)) (outcome : Result Done Stop) (o
 
       by_asked : (r : Result Request Stop) → Asks words r → HasConclusion limit old status r
       by_asked (Err stops) is = inr s
-      by_asked (Ok request) is = λ bytes held. let given = (file_gives limit request.path bytes (request_known words request is)).some in (given.0, given.1, by_given given.0)
+      by_asked (Ok request) is = λ bytes held. let given = (file_gives limit request.flow bytes (request_known words request is)).some in (given.0, given.1, by_given given.0)
 
   pub concludes : Obeys limit words old mid outcome → Reports mid new outcome status → IsQuiet old.faults new.faults → Concludes limit words old status
   concludes (Stopped other asks e same) r q = (Err other, asks, inl (stopped_at outcome other old mid new status e same r).0)
@@ -324,7 +365,7 @@ module _ (limit : ℕ) (words : List (List ℕ)) (outcome : Result Done Stop) (o
   concludes (Ran request asks k wants counts said) r q = by_outcome outcome k counts r
     where
       by_outcome : (o : Result Done Stop) → Commands limit request old mid (counts_of o) → CountsStop o old.faults mid.faults → Reports mid new o status → Concludes limit words old status
-      by_outcome (Ok done) k n r = (Ok request, asks, λ x held. (Ok k.2.answer, subst (λ (b : List ℕ). FileGives limit request.path b (Ok k.2.answer)) (sym (k.1 x held)) k.2.gives, inl r.0))
+      by_outcome (Ok done) k n r = (Ok request, asks, λ x held. (Ok k.2.answer, subst (λ (b : List ℕ). FileGives limit request.flow b (Ok k.2.answer)) (sym (k.1 x held)) k.2.gives, inl r.0))
       by_outcome (Err (stop.Fault OpenFault)) k n r =
           absurd (let t = q.openings in let l = n.openings.later in let s = n.openings.risen in let p = r.1.openings in omega (arith, t.0, t.1, l, s, p))
       by_outcome (Err (stop.Fault ReadFault)) k n r =
@@ -333,7 +374,8 @@ module _ (limit : ℕ) (words : List (List ℕ)) (outcome : Result Done Stop) (o
           absurd (let t = q.writes in let l = n.writes.later in let s = n.writes.risen in let p = r.1.writes in omega (arith, t.0, t.1, l, s, p))
       by_outcome (Err stop.NoMemory) k n r = starved r.0
       by_outcome (Err (stop.Fault fault)) k n r =
-          (Ok request, asks, λ x held. (Err (stop.Fault fault), subst (λ (b : List ℕ). FileGives limit request.path b (Err (stop.Fault fault))) (sym (k.1.1 x held)) k.1.2, inl r.0))
+          let may = given_of k (λ h. h) in
+          (Ok request, asks, λ x held. (Err (stop.Fault fault), subst (λ (b : List ℕ). FileGives limit request.flow b (Err (stop.Fault fault))) (sym (may.1 x held)) may.2, inl r.0))
 
   -- ---- what is kept
 
@@ -347,11 +389,26 @@ module _ (limit : ℕ) (words : List (List ℕ)) (outcome : Result Done Stop) (o
     inl (ap (λ (w : World). w.outputs) same),
   )
 
-  kept_stops : (request : Request) → Asks words (Ok request) → Stops limit request old mid → Kept mid
-  kept_stops request asks (inl l) = (l.held, l.inputs, inl l.outputs)
-  kept_stops request asks (inr b) =
+  kept_stops : (request : Request) (stops : Stop) → Asks words (Ok request) → Ends limit request old mid stops → Kept mid
+  kept_stops request stops asks (Refused l h) = (l.held, l.inputs, inl l.outputs)
+  kept_stops request stops asks (Interrupted host b) =
       let leaves = b.2.leaves in
       (leaves.held, leaves.inputs, inr (request, asks, (b.0, b.1, record { head = b.2.head; put = b.2.put; begun = b.2.begun; holds = leaves.content; others = leaves.other_outputs })))
+  kept_stops request stops asks (Spoiled b) =
+      let leaves = b.2.leaves in
+      let good = b.2.is_good in
+      let begun : IsBegun limit request.flow b.0 b.2.out = record {
+        shape = good.shape;
+        frames = good.frames;
+        rest = good.has_damage.rest;
+        readies = good.readied.readies;
+        end = good.readied.end;
+        count = length b.2.out;
+        file = good.has_damage.begins;
+        ready = good.ready;
+        put_is = sym (take-length b.2.out) ∙ ap (take (length b.2.out)) good.out_is;
+      } in
+      (leaves.held, leaves.inputs, inr (request, asks, (b.0, b.1, record { head = b.2.head; put = b.2.out; begun = begun; holds = leaves.content; others = leaves.other_outputs })))
 
   kept_done : (request : Request) {counts : Counts} → Asks words (Ok request) → MayHold (old.held request.input) (Finishes limit request old mid counts) → Kept mid
   kept_done request asks b =
@@ -365,11 +422,7 @@ module _ (limit : ℕ) (words : List (List ℕ)) (outcome : Result Done Stop) (o
     where
       by_outcome : (o : Result Done Stop) → Commands limit request old mid (counts_of o) → Kept mid
       by_outcome (Ok done) k = kept_done request asks k
-      by_outcome (Err (stop.Fault OpenFault)) k = kept_stops request asks k
-      by_outcome (Err (stop.Fault ReadFault)) k = kept_stops request asks k
-      by_outcome (Err (stop.Fault WriteFault)) k = kept_stops request asks k
-      by_outcome (Err stop.NoMemory) k = kept_stops request asks k
-      by_outcome (Err (stop.Fault fault)) k = kept_stops request asks k.0
+      by_outcome (Err stops) k = kept_stops request stops asks k
 
   pub keeps : Obeys limit words old mid outcome → Reports mid new outcome status → Keeps limit words old new
   keeps h r =
@@ -433,17 +486,11 @@ counts_as T U (stop.Fault WriteFault) old new h = h
 counts_as T U (stop.Fault other) old new h = h
 counts_as T U stop.NoMemory old new h = h
 
-said_stops : {limit : ℕ} {request : Request} {old mid : World} → Stops limit request old mid → mid.said ≡ old.said
-said_stops (inl l) = l.said
-said_stops (inr b) = b.2.leaves.said
-
 said_by : (limit : ℕ) (request : Request) (old mid : World) (outcome : Result Counts Stop) → Commands limit request old mid outcome → mid.said ≡ old.said
 said_by limit request old mid (Ok counts) k = k.2.leaves.said
-said_by limit request old mid (Err (stop.Fault OpenFault)) k = said_stops k
-said_by limit request old mid (Err (stop.Fault ReadFault)) k = said_stops k
-said_by limit request old mid (Err (stop.Fault WriteFault)) k = said_stops k
-said_by limit request old mid (Err stop.NoMemory) k = said_stops k
-said_by limit request old mid (Err (stop.Fault fault)) k = said_stops k.0
+said_by limit request old mid (Err stops) (Refused l h) = l.said
+said_by limit request old mid (Err stops) (Interrupted host b) = b.2.leaves.said
+said_by limit request old mid (Err stops) (Spoiled b) = b.2.leaves.said
 
 pub obeys_done : (limit : ℕ) (words : List (List ℕ)) (old new : World) (request : Request) (counts : Counts) (report : Bool) → Asks words (Ok request) → Commands limit request old new (Ok counts) → report ≡ request.report → new.faults ≡ old.faults
     → Obeys limit words old new (Ok (record { counts = counts; report = report }))

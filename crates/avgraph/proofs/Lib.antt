@@ -1,7 +1,9 @@
 mod StopLemmas
 mod ChainLemmas
+mod FormatLemmas
 mod FileLemmas
 mod ReadyLemmas
+mod StatusLemmas
 mod RunLemmas
 mod CommandLemmas
 mod HeadlineLemmas

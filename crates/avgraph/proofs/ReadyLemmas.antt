@@ -1,16 +1,18 @@
 -- Filters of a path, made ready one after the other.
-use Rattle.std.proofs.Common.{◌≡◌, ◌<◌, ◌≤◌, ◌+◌, ◌⊎◌, ℕ, List, [], ◌∷◌, ◌++◌, ◌↔◌, Bool, true, false, IsTrue, Some, Result, Err, take, length, get_or, slice_index_or, zero, suc, refl, sym, ◌∙◌, ap, subst, arith, inl, inr}
+use Rattle.std.proofs.Common.{◌≡◌, ◌<◌, ◌+◌, ◌⊎◌, ℕ, List, [], ◌∷◌, ◌++◌, Some, Result, Err, take, length, get_or, slice_index_or, zero, suc, refl, sym, ◌∙◌, ap, subst, arith, inl, inr}
 use Rattle.std.specs.List.{slice_get}
 use Rattle.std.proofs.lemmas.List.{take_more}
 use Rattle.std.proofs.lemmas.Option.{slice_get_within, get_or_from_slice_get, same_Some}
+use Rattle.av_base.specs.declared.formats.PixelFormat.{PixelFormat}
+use Rattle.av_base.specs.declared.formats.PixelFormat.TheVariants.{Gray, Yuv420p, Yuv422p, Yuv444p, Yuva420p, Yuva422p, Yuva444p}
+use Rattle.av_base.specs.FormatSets.{Has}
 use Rattle.av_base.specs.declared.formats.Format.{Format}
 use Rattle.av_base.specs.declared.formats.Format.TheVariants as format
 use Rattle.av_base.specs.declared.shapes.Shape.{Shape}
 use Rattle.av_base.specs.declared.shapes.Props.{Props}
 use Rattle.av_base.specs.declared.shapes.Props.TheVariants as props
 use Rattle.av_host.specs.World.{Faults}
-use Rattle.av_base.specs.Shapes.{IsPictureShape, IsPictured}
-use Rattle.av_filter.specs.Meanings.{AreOfStream, IsOfStream}
+use Rattle.av_base.specs.Shapes.{IsVideo, IsPictureShape, IsPictured}
 use Rattle.av_frame.specs.declared.refusals.ConfigError.{ConfigError}
 use Rattle.av_frame.specs.declared.refusals.ConfigError.TheVariants as config
 use Rattle.graph_text.specs.declared.graph.FilterCall.{FilterCall}
@@ -18,72 +20,77 @@ use Rattle.node_core.specs.declared.kind.Kind.{Kind}
 use Rattle.node_core.specs.Shaping.{ReadyValue, Takes, IsReady, IsConfigFault}
 use Rattle.node_core.specs.Kinds.{IsKind}
 use Rattle.node_core.proofs.LawLemmas.{one_meaning}
-use Rattle.node_core.specs.Filters.{frame_filters}
+use Rattle.node_core.proofs.WishLemmas.{in_set_of}
 use Rattle.node_core.specs.FilterLaws.{frame_filter_laws}
-use Rattle.avgraph.specs.Chains.{Step, IsReadied, AreReady}
-use Rattle.y4m_io.specs.HeaderTexts.{HasHeader, IsWritable}
-use Rattle.av_faults.specs.Faults.{IsOfFile, stop_status}
-use Rattle.avgraph.specs.Stops.{config_stop, CountsStop}
-use Rattle.avgraph.specs.Answers.{Answer, TakesFormat, AreTaking, IsRefused, IsUnready, ShapeGives, FileGives, reject}
+use Rattle.avgraph.specs.Chains.{Step, Flow, IsReadied, AreReady}
+use Rattle.y4m_header.specs.HeaderTexts.{HasHeader, IsWritable, colour_of}
+use Rattle.av_faults.specs.Faults.{stop_status}
+use Rattle.avgraph.specs.Stops.{IsHostStop, config_stop, CountsStop}
+use Rattle.avgraph.specs.Answers.{Answer, Readied, IsRefused, IsUnready, HasFormats, HasRate, ShapeGives, y4m_formats}
+use Rattle.avgraph.specs.Readying.{TakesFormat, AreTaking, LacksStop}
 use Rattle.avgraph.specs.Jobs.{AreOfPath}
 use Rattle.avgraph.specs.Commands.{StopsShape}
-use Rattle.av_faults.specs.declared.fault.Fault.{Fault}
-use Rattle.av_faults.specs.declared.fault.Fault.TheVariants.{OpenFault, ReadFault, WriteFault}
+use Rattle.av_faults.specs.declared.fault.Fault.TheVariants.{OpenFault, ReadFault, WriteFault, NoRate}
 use Rattle.av_faults.specs.declared.fault.Stop.{Stop}
 use Rattle.av_faults.specs.declared.fault.Stop.TheVariants as stop
-use Rattle.avgraph.proofs.StopLemmas.{fault_is}
+use Rattle.avgraph.proofs.StopLemmas.{config_memory}
 
--- ---- the faults of files
+-- ---- what stops the making ready
 
-error_is : {a b : Stop} → ◌≡◌ {A = Result Answer Stop} (Err a) (Err b) → a ≡ b
-error_is e = cc
+config_status : (n : ℕ) (e : ConfigError) → (config_stop n e ≡ stop.NoMemory) ⊎ (stop_status (config_stop n e) ≡ 8)
+config_status n (config.SizeMismatch a b) = inr refl
+config_status n (config.BadGeometry found allowed) = inr refl
+config_status n config.TimeBaseRange = inr refl
+config_status n (config.TooLarge found allowed) = inr refl
+config_status n (config.NoValue k) = inr refl
+config_status n config.NoMemory = inl refl
 
-no_fault : {A : Type 0} (f : Fault) → stop.NoMemory ≡ stop.Fault f → A
-no_fault f e = absurd cc
+-- a filter that can't be configured has the status 8
+pub unready_status : (path : List Step) (s : Shape) (stops : Stop) → IsUnready path s stops → stop_status stops ≡ 8
+unready_status [] s stops h = absurd h
+unready_status (c ∷ cs) s stops (inl h) = elim (config_status c.number h.0) [
+  | inr e ↦ subst (λ (x : Stop). stop_status x ≡ 8) (sym h.2) e
+  | inl e ↦ absurd (frame_filter_laws.making.no_memory h.1.kind.options s (subst (IsConfigFault h.1.kind s) (config_memory c.number h.0 (sym e)) h.1.fault))
+]
+unready_status (c ∷ cs) s stops (inr h) = unready_status cs h.1 stops h.4
 
-abbrev HasFileStatus : Fault → Type 0
-HasFileStatus f = IsOfFile (stop_status (stop.Fault f))
+-- a stop of one of these statuses is no failed call, nor out of memory
+pub no_host : (stops : Stop) → stop_status stops < 11 → ¬ IsHostStop stops
+no_host (stop.Fault OpenFault) less h = absurd (omega arith)
+no_host (stop.Fault ReadFault) less h = absurd (omega arith)
+no_host (stop.Fault WriteFault) less h = absurd (omega arith)
+no_host stop.NoMemory less h = absurd (omega arith)
+no_host (stop.Fault other) less h = h
 
-config_fault : (n : ℕ) (e : ConfigError) (f : Fault) → config_stop n e ≡ stop.Fault f → HasFileStatus f
-config_fault n (config.SizeMismatch a b) f e = subst HasFileStatus (fault_is e) (inr (inl refl))
-config_fault n (config.BadGeometry found allowed) f e = subst HasFileStatus (fault_is e) (inr (inl refl))
-config_fault n config.TimeBaseRange f e = subst HasFileStatus (fault_is e) (inr (inl refl))
-config_fault n (config.TooLarge found allowed) f e = subst HasFileStatus (fault_is e) (inr (inl refl))
-config_fault n (config.NoValue k) f e = subst HasFileStatus (fault_is e) (inr (inl refl))
-config_fault n config.NoMemory f e = no_fault f e
-
-unready_fault : (path : List Step) (s : Shape) (f : Fault) → IsUnready path s (stop.Fault f) → HasFileStatus f
-unready_fault [] s f h = absurd h
-unready_fault (c ∷ cs) s f (inl h) = config_fault c.number h.0 f (sym h.2)
-unready_fault (c ∷ cs) s f (inr h) = unready_fault cs h.1 f h.4
-
-pub shape_fault : (limit : ℕ) (path : List Step) (bytes : List ℕ) (s : Shape) (f : Fault) → ShapeGives limit path bytes s (reject f) → HasFileStatus f
-shape_fault limit path bytes s f (inl h) = subst HasFileStatus (fault_is (sym (error_is h.1))) (inl refl)
-shape_fault limit path bytes s f (inr (taking, inl h)) = unready_fault path s f (subst (IsUnready path s) (sym (error_is h.2)) h.1)
-shape_fault limit path bytes s f (inr (taking, inr (readied, ready, inl h))) = subst HasFileStatus (fault_is (sym (error_is h.1))) (inr (inr refl))
-shape_fault limit path bytes s f (inr (taking, inr (readied, ready, inr h))) = absurd (let e = h.2 in cc)
-
-pub file_fault : (limit : ℕ) (path : List Step) (bytes : List ℕ) (f : Fault) → FileGives limit path bytes (reject f) → HasFileStatus f
-file_fault limit path bytes f (inl h) = subst HasFileStatus (fault_is (sym (error_is h.1))) (inr (inr refl))
-file_fault limit path bytes f (inr h) = shape_fault limit path bytes h.0 f h.2
-
-no_host : (n : ℕ) → 11 ≤ n → n ≤ 13 → IsOfFile n → ⊥
-no_host n low high (inl e) = omega arith
-no_host n low high (inr (inl e)) = omega arith
-no_host n low high (inr (inr e)) = omega arith
-
--- a fault of a file is none of the host
-file_counts : (T : Type 0) (f : Fault) (faults : Faults) → HasFileStatus f → CountsStop {T = T} (Err (stop.Fault f)) faults faults
-file_counts T OpenFault faults h = absurd (no_host 11 (omega arith) (omega arith) h)
-file_counts T ReadFault faults h = absurd (no_host 12 (omega arith) (omega arith) h)
-file_counts T WriteFault faults h = absurd (no_host 13 (omega arith) (omega arith) h)
-file_counts T fault faults h = refl
+-- no count rises with what is no failed call
+still_counts : (T : Type 0) (stops : Stop) (faults : Faults) → ¬ IsHostStop stops → CountsStop {T = T} (Err stops) faults faults
+still_counts T (stop.Fault OpenFault) faults none = absurd (none tt)
+still_counts T (stop.Fault ReadFault) faults none = absurd (none tt)
+still_counts T (stop.Fault WriteFault) faults none = absurd (none tt)
+still_counts T stop.NoMemory faults none = refl
+still_counts T (stop.Fault other) faults none = refl
 
 -- no count rises if the filters can't be made ready
-pub shape_counts : (T : Type 0) (path : List Step) (s : Shape) (stops : Stop) (faults : Faults) → StopsShape path s stops → CountsStop {T = T} (Err stops) faults faults
-shape_counts T path s (stop.Fault f) faults (inl e) = no_fault f (sym e)
-shape_counts T path s (stop.Fault f) faults (inr h) = file_counts T f faults (shape_fault 0 path [] s f (h 0 []))
-shape_counts T path s stop.NoMemory faults h = refl
+pub shape_counts : (T : Type 0) (flow : Flow) (s : Shape) (stops : Stop) (faults : Faults) → StopsShape flow s stops → CountsStop {T = T} (Err stops) faults faults
+shape_counts T flow s stops faults (inl e) = subst (λ (x : Stop). CountsStop {T = T} (Err x) faults faults) (sym e) refl
+shape_counts T flow s stops faults (inr h) = still_counts T stops faults h.no_host
+
+shape_stop : (flow : Flow) (s : Shape) (stops : Stop) → stop_status stops < 9 → ((limit : ℕ) (bytes : List ℕ) → ShapeGives limit flow bytes s (Err stops)) → StopsShape flow s stops
+shape_stop flow s stops less gives = inr (record { gives = gives; no_damage = λ e. omega arith; no_host = no_host stops (omega arith) })
+
+-- the links can't be given formats
+pub lacks_stop : (flow : Flow) (s : Shape) (stops : Stop) → LacksStop flow s.format stops → StopsShape flow s stops
+lacks_stop flow s stops (inl e) = inl e
+lacks_stop flow s stops (inr h) = shape_stop flow s stops (subst (λ (x : Stop). stop_status x < 9) (sym h.2) (omega arith)) (λ limit bytes. inl (h.0, h.1, ap (λ (x : Stop). let r : Result Answer Stop = Err x in r) h.2))
+
+-- a filter can't be configured
+pub unready_stop : (flow : Flow) (s : Shape) (stops : Stop) → (fs : List Format) × HasFormats flow s.format fs → (stops ≡ stop.NoMemory) ⊎ IsUnready flow.path s stops → StopsShape flow s stops
+unready_stop flow s stops formats (inl e) = inl e
+unready_stop flow s stops formats (inr h) = shape_stop flow s stops (let e = unready_status flow.path s stops h in omega arith) (λ limit bytes. inr (formats.0, formats.1, inl (stops, h, refl)))
+
+-- the rate of the output isn't known
+pub rate_stop : (flow : Flow) (s : Shape) → (fs : List Format) × HasFormats flow s.format fs → (readied : Readied) → AreReady flow.path s readied.readies readied.end → ¬ HasRate readied.end.props → StopsShape flow s (stop.Fault (NoRate 0))
+rate_stop flow s formats readied ready none = shape_stop flow s (stop.Fault (NoRate 0)) (omega arith) (λ limit bytes. inr (formats.0, formats.1, inr (readied, ready, inl (none, refl))))
 
 -- ---- the filters of a path
 
@@ -127,22 +134,6 @@ path_more path i step is = take_more path i step (slice_get_within path i step i
 
 -- ---- formats
 
--- the test of a filter fails
-pub untakes : {b : Bool} {A : Type 0} → IsTrue b ↔ A → b ≡ false → ¬ A
-untakes {b} {A} is e a = by_test b is e a
-  where
-    by_test : (t : Bool) → IsTrue t ↔ A → t ≡ false → ¬ A
-    by_test true is e a = absurd cc
-    by_test false is e a = let h = is.1 a in absurd cc
-
-taking_push : (path : List Step) (step : Step) (f : Format) → AreTaking path f → TakesFormat f step → AreTaking (path ++ step ∷ []) f
-taking_push [] step f all h = (h, tt)
-taking_push (s ∷ ss) step f all h = (all.0, taking_push ss step f all.1 h)
-
-pub taking_more : {kinds : List Kind} {path : List Step} {i filter : ℕ} (kind : Kind) (f : Format) → kind ≡ get_or kinds filter kind → FilterAt kinds path i filter → AreTaking (take i path) f → Takes kind f → AreTaking (take (i + 1) path) f
-taking_more {kinds} {path} {i} {filter} kind f is at all takes =
-    rw (path_more path i at.step at.is_step) (taking_push (take i path) at.step f all (kind, is_kind_at kind is at, takes))
-
 taken_at : (path : List Step) (i : ℕ) (step : Step) (f : Format) → slice_get path i ≡ Some step → AreTaking path f → TakesFormat f step
 taken_at [] i step f is all = absurd cc
 taken_at (s ∷ ss) zero step f is all = subst (TakesFormat f) (same_Some s step is) all.0
@@ -185,41 +176,77 @@ path_unready {kinds} {path} {i} {filter} kind s u rs e is at p picture takes (in
     inr (subst (λ (n : ℕ). IsUnready path s (config_stop n e)) at.number
     (unready_from path i at.step s u rs e at.is_step p (record { kind = kind; is_kind = is_kind_at kind is at; picture = picture; takes = takes; fault = h })))
 
--- ---- what stops the making ready
-
-pub unready_stop : (path : List Step) (s : Shape) (stops : Stop) → AreTaking path s.format → (stops ≡ stop.NoMemory) ⊎ IsUnready path s stops → StopsShape path s stops
-unready_stop path s stops taking (inl e) = inl e
-unready_stop path s stops taking (inr h) = inr (λ limit bytes. inr (taking, inl (stops, h, refl)))
-
 -- ---- what a file can hold
 
--- a header can be written for each shape of a stream
-has_header : (f : Format) (p q : Props) → AreOfStream p q → HasHeader f p → HasHeader f q
-has_header (format.Video f) (props.Video p) (props.Video q) same has = (has.0, rw same.0 has.1)
-has_header (format.Video f) (props.Video p) (props.Audio q) same has = absurd same
-has_header (format.Video f) (props.Audio p) q same has = absurd has
-has_header (format.Audio f) p q same has = absurd has
+-- the formats that an output file can hold, as a list
+abbrev held : List Format
+held = format.Video Gray ∷ format.Video Yuv420p ∷ format.Video Yuv422p ∷ format.Video Yuv444p ∷ format.Video Yuva444p ∷ []
 
-stream_header : (s u : Shape) → IsOfStream s u → HasHeader s.format s.props → HasHeader u.format u.props
-stream_header s u same has = subst (λ (f : Format). HasHeader f u.props) (sym same.format) (has_header s.format s.props u.props same.props has)
+-- it can't hold these
+none_420_alpha : (k : ℕ) → k < 5 → slice_index_or held k (format.Video Yuva420p) ≡ format.Video Yuva420p → ⊥
+none_420_alpha zero less e = absurd cc
+none_420_alpha (suc zero) less e = absurd cc
+none_420_alpha (suc (suc zero)) less e = absurd cc
+none_420_alpha (suc (suc (suc zero))) less e = absurd cc
+none_420_alpha (suc (suc (suc (suc zero)))) less e = absurd cc
+none_420_alpha (suc (suc (suc (suc (suc k))))) less e = omega arith
 
-readied_writable : (c : FilterCall) (s u : Shape) (r : ReadyValue) → IsReadied c s r → r.outs ≡ u ∷ [] → IsWritable s → IsWritable u
-readied_writable c s u r p outs w =
-    subst IsWritable (only (sym p.is_ready.outs ∙ outs)) (record {
-      lawful = pictured.lawful;
-      video = pictured.video;
-      limits = pictured.limits;
-      header = stream_header s (frame_filters.making.shape r.settings s) (frame_filter_laws.making.stream r.settings s) w.header;
-    })
+none_422_alpha : (k : ℕ) → k < 5 → slice_index_or held k (format.Video Yuva422p) ≡ format.Video Yuva422p → ⊥
+none_422_alpha zero less e = absurd cc
+none_422_alpha (suc zero) less e = absurd cc
+none_422_alpha (suc (suc zero)) less e = absurd cc
+none_422_alpha (suc (suc (suc zero))) less e = absurd cc
+none_422_alpha (suc (suc (suc (suc zero)))) less e = absurd cc
+none_422_alpha (suc (suc (suc (suc (suc k))))) less e = omega arith
+
+no_420_alpha : ¬ Has y4m_formats (format.Video Yuva420p)
+no_420_alpha has = let h = (in_set_of held (format.Video Yuva420p)).0 has in none_420_alpha h.0 h.1 h.2
+
+no_422_alpha : ¬ Has y4m_formats (format.Video Yuva422p)
+no_422_alpha has = let h = (in_set_of held (format.Video Yuva422p)).0 has in none_422_alpha h.0 h.1 h.2
+
+-- the colour of a format that an output file can hold has a name
+held_colour : (f : PixelFormat) → Has y4m_formats (format.Video f) → 0 < length (colour_of f)
+held_colour Gray has = omega arith
+held_colour Yuv420p has = omega arith
+held_colour Yuv422p has = omega arith
+held_colour Yuv444p has = omega arith
+held_colour Yuva420p has = absurd (no_420_alpha has)
+held_colour Yuva422p has = absurd (no_422_alpha has)
+held_colour Yuva444p has = omega arith
+
+held_header : (f : Format) (p : Props) → Has y4m_formats f → IsVideo f → HasRate p → HasHeader f p
+held_header (format.Video f) (props.Video p) has video rate = (held_colour f has, rate)
+held_header (format.Video f) (props.Audio p) has video rate = rate
+held_header (format.Audio f) p has video rate = absurd video
+
+readied_pictured : (c : FilterCall) (s u : Shape) (r : ReadyValue) → IsReadied c s r → r.outs ≡ u ∷ [] → IsPictured u × (u.format ≡ s.format)
+readied_pictured c s u r p outs =
+    let same = only (sym p.is_ready.outs ∙ outs) in (
+      subst IsPictured same (frame_filter_laws.making.pictured r.settings s (record { options = p.kind.options; picture = p.picture; takes = p.takes; settles = p.is_ready.settles })),
+      subst (λ (x : Shape). x.format ≡ s.format) same ((frame_filter_laws.making.stream r.settings s).format),
+    )
   where
     only : {a b : Shape} → ◌≡◌ {A = List Shape} (a ∷ []) (b ∷ []) → a ≡ b
     only e = cc
 
-    pictured : IsPictured (frame_filters.making.shape r.settings s)
-    pictured = frame_filter_laws.making.pictured r.settings s (record { options = p.kind.options; picture = p.picture; takes = p.takes; settles = p.is_ready.settles })
+-- the end of a path is a picture in the format of its beginning
+pub path_pictured : (path : List Step) (s t : Shape) (rs : List ReadyValue) → AreReady path s rs t → IsPictured s → IsPictured t × (t.format ≡ s.format)
+path_pictured [] s t [] p pictured = (subst IsPictured (sym p) pictured, ap (λ (x : Shape). x.format) p)
+path_pictured [] s t (x ∷ xs) p pictured = absurd p
+path_pictured (c ∷ cs) s t [] p pictured = absurd p
+path_pictured (c ∷ cs) s t (r ∷ rs) p pictured =
+    let here = readied_pictured c.call s p.1.0 r p.0 p.1.1 in
+    let end = path_pictured cs p.1.0 t rs p.1.2 here.0 in
+    (end.0, end.1 ∙ here.1)
 
-pub chain_writable : (path : List Step) (s t : Shape) (rs : List ReadyValue) → AreReady path s rs t → IsWritable s → IsWritable t
-chain_writable [] s t [] p w = subst IsWritable (sym p) w
-chain_writable [] s t (x ∷ xs) p w = absurd p
-chain_writable (c ∷ cs) s t [] p w = absurd p
-chain_writable (c ∷ cs) s t (r ∷ rs) p w = chain_writable cs p.1.0 t rs p.1.2 (readied_writable c.call s p.1.0 r p.0 p.1.1 w)
+-- it is written if an output file can hold the format and its rate is known
+pub path_writable : (path : List Step) (s t : Shape) (rs : List ReadyValue) → AreReady path s rs t → IsPictured s → Has y4m_formats s.format → HasRate t.props → IsWritable t
+path_writable path s t rs p pictured has rate =
+    let end = path_pictured path s t rs p pictured in
+    record {
+      lawful = end.0.lawful;
+      video = end.0.video;
+      limits = end.0.limits;
+      header = held_header t.format t.props (subst (Has y4m_formats) (sym end.1) has) end.0.video rate;
+    }

@@ -1,6 +1,6 @@
 -- Words ask for exactly one thing, or are stopped by exactly one.
-use Rattle.std.proofs.Common.{◌≡◌, ◌<◌, ◌≤◌, ◌+◌, ◌-◌, ◌⊎◌, ◌++◌, ℕ, List, [], ◌∷◌, filter, Some, Result, Ok, Err, length, map, get_or, take, zero, suc, refl, sym, ◌∙◌, ap, subst, arith, inl, inr, Contains, All}
-use Rattle.std.specs.List.{AllZip, AllByRecursion, slice_get}
+use Rattle.std.proofs.Common.{◌≡◌, ◌<◌, ◌≤◌, ◌+◌, ◌-◌, ◌⊎◌, ◌++◌, ℕ, List, [], ◌∷◌, filter, Result, Ok, Err, length, map, get_or, take, zero, suc, refl, sym, ◌∙◌, ap, subst, arith, inl, inr, Contains, All}
+use Rattle.std.specs.List.{AllZip, AllByRecursion}
 use Rattle.std.proofs.lemmas.List.{take_more, length-map}
 use Rattle.std.proofs.lemmas.List.Elements.{All-nil, All-cons}
 use Rattle.std.proofs.lemmas.Bool.{cases_order}
@@ -16,6 +16,7 @@ use Rattle.graph_text.specs.declared.graph.FilterCall.{FilterCall}
 use Rattle.graph_text.proofs.GraphLemmas.{one_graph, one_graph_fault, graph_or_fault}
 use Rattle.graph_text.proofs.TotalLemmas.{graph_or_none}
 use Rattle.graph_plan.specs.declared.plan.DraftPlan.{DraftPlan}
+use Rattle.graph_plan.specs.declared.plan.Edge.{Edge}
 use Rattle.graph_plan.specs.declared.plan.Ending.{Ending}
 use Rattle.graph_plan.specs.declared.plan.Ending.TheVariants.{Y4m, Wav, Frames}
 use Rattle.graph_plan.specs.declared.plan.Pads.{Pads}
@@ -48,9 +49,10 @@ use Rattle.av_faults.specs.declared.fault.Stop.TheVariants as stop
 use Rattle.av_host.specs.World.{Faults}
 use Rattle.graph_plan.specs.declared.plan.PlanFault.{PlanFault}
 use Rattle.graph_plan.specs.declared.plan.PlanFault.TheVariants as plan
-use Rattle.avgraph.proofs.FileLemmas.{AreKnown}
+use Rattle.plan_formats.specs.PathFormats.{HavePath}
+use Rattle.avgraph.proofs.FormatLemmas.{IsKnownFlow, kind_at}
 use Rattle.avgraph.specs.Bounds.{most_filters}
-use Rattle.avgraph.specs.Chains.{Step}
+use Rattle.avgraph.specs.Chains.{Step, Flow}
 use Rattle.avgraph.specs.Jobs.{AreOfPath, Asked, IsSmallCommand}
 use Rattle.avgraph.specs.declared.request.Job.{Job}
 use Rattle.av_base.specs.Failures.{IfFault}
@@ -166,20 +168,6 @@ steps_one calls (f ∷ fs) (x ∷ xs) (y ∷ ys) p q =
     let call : x.call ≡ y.call = same_Some x.call y.call (sym p.0.1 ∙ q.0.1) in
     let step : x ≡ y = ap (λ (n : ℕ). let s : Step = record { number = n; call = x.call } in s) number ∙ ap (λ (c : FilterCall). let s : Step = record { number = y.number; call = c } in s) call in
     ap (λ (s : Step). s ∷ xs) step ∙ ap (λ (ss : List Step). y ∷ ss) (steps_one calls fs xs ys p.1 q.1)
-
--- the calls of steps mean filters
-pub steps_known : (calls : List FilterCall) (kinds : List Kind) (order : List ℕ) (path : List Step) → AllZip IsKind calls kinds → AreSteps calls order path → (k : ℕ) (step : Step) → slice_get path k ≡ Some step → (kind : Kind) × IsKind step.call kind
-steps_known calls kinds [] [] zip are k step is = absurd cc
-steps_known calls kinds [] (x ∷ xs) zip are k step is = absurd are
-steps_known calls kinds (f ∷ fs) [] zip are k step is = absurd are
-steps_known calls kinds (f ∷ fs) (x ∷ xs) zip are zero step is = subst (λ (s : Step). (kind : Kind) × IsKind s.call kind) (same_Some x step is) (kind_at calls kinds f x.call zip are.0.1)
-  where
-    kind_at : (cs : List FilterCall) (ks : List Kind) (n : ℕ) (call : FilterCall) → AllZip IsKind cs ks → slice_get cs n ≡ Some call → (kind : Kind) × IsKind call kind
-    kind_at [] ks n call z e = absurd cc
-    kind_at (c ∷ cs) [] n call z e = absurd z
-    kind_at (c ∷ cs) (k ∷ ks) zero call z e = (k, subst (λ (d : FilterCall). IsKind d k) (same_Some c call e) z.0)
-    kind_at (c ∷ cs) (k ∷ ks) (suc n) call z e = kind_at cs ks n call z.1 e
-steps_known calls kinds (f ∷ fs) (x ∷ xs) zip are (suc k) step is = steps_known calls kinds fs xs zip are.1 k step is
 
 -- ---- calls
 
@@ -299,6 +287,11 @@ module _ (command : Command) (calls : List FilterCall) (kinds : List Kind) (few 
 
 -- ---- each step
 
+same_flow : (a b : Flow) → a.calls ≡ b.calls → a.links ≡ b.links → a.path ≡ b.path → a ≡ b
+same_flow a b p q r =
+    ap (λ x. let f : Flow = record { calls = x; links = a.links; path = a.path } in f) p
+    ∙ (ap (λ x. let f : Flow = record { calls = b.calls; links = x; path = a.path } in f) q ∙ ap (λ x. let f : Flow = record { calls = b.calls; links = b.links; path = x } in f) r)
+
 plan_gives : (command : Command) (calls : List FilterCall) (plan : Plan) → RunsToday command → ((names : List ℕ × List ℕ) → AreNames command names → IsPath plan) → (path : List Step) × AreSteps calls plan.order path
     → HasOne (AsksPlan command calls plan)
 plan_gives command calls plan today is_path steps =
@@ -307,17 +300,17 @@ plan_gives command calls plan today is_path steps =
   where
     same_request : (names : List ℕ × List ℕ) (a b : Request) → IsRequest command calls plan names a → IsRequest command calls plan names b → a ≡ b
     same_request names a b p q =
-        let path = steps_one calls plan.order a.path b.path p.steps q.steps in
-        ap (λ x. let r : Request = record { input = x; path = a.path; output = a.output; report = a.report } in r) (p.input ∙ sym q.input)
-        ∙ (ap (λ x. let r : Request = record { input = b.input; path = x; output = a.output; report = a.report } in r) path
-        ∙ (ap (λ x. let r : Request = record { input = b.input; path = b.path; output = x; report = a.report } in r) (p.output ∙ sym q.output)
-        ∙ ap (λ x. let r : Request = record { input = b.input; path = b.path; output = b.output; report = x } in r) (p.report ∙ sym q.report)))
+        let path = steps_one calls plan.order a.flow.path b.flow.path p.steps q.steps in
+        ap (λ x. let r : Request = record { input = x; flow = a.flow; output = a.output; report = a.report } in r) (p.input ∙ sym q.input)
+        ∙ (ap (λ x. let r : Request = record { input = b.input; flow = x; output = a.output; report = a.report } in r) (same_flow a.flow b.flow (p.calls_are ∙ sym q.calls_are) (p.links_are ∙ sym q.links_are) path)
+        ∙ (ap (λ x. let r : Request = record { input = b.input; flow = b.flow; output = x; report = a.report } in r) (p.output ∙ sym q.output)
+        ∙ ap (λ x. let r : Request = record { input = b.input; flow = b.flow; output = b.output; report = x } in r) (p.report ∙ sym q.report)))
 
     one : (names : List ℕ × List ℕ) → AreNames command names → HasOne (λ (r : Result Request Stop). (request : Request) × IsRequest command calls plan names request × (r ≡ Ok request))
     one names are =
-        let request : Request = record { input = names.0; path = steps.0; output = names.1; report = command.report } in
+        let request : Request = record { input = names.0; flow = record { calls = calls; links = plan.links; path = steps.0 }; output = names.1; report = command.report } in
         record {
-          some = (Ok request, (request, record { input = refl; is_path = is_path names are; steps = steps.1; output = refl; report = refl }, refl));
+          some = (Ok request, (request, record { input = refl; calls_are = refl; links_are = refl; is_path = is_path names are; steps = steps.1; output = refl; report = refl }, refl));
           one = λ a b p q. p.2 ∙ (ap (λ (r : Request). Ok r) (same_request names p.0 q.0 p.1 q.1) ∙ sym q.2);
         }
 
@@ -378,7 +371,62 @@ asks_one words =
     after_step (IsWordFault words) refuse (IsCommand words) AsksCommand (law.one_of_both words) (law.one_fault words) (λ command fault is has. law.not_both words command fault is has)
     (alike_one (IsCommand words) AsksCommand (law.one_command words)) (λ command is. command_gives command (small_command words command is))
 
--- ---- what stops words is no fault of the host
+-- ---- what stops words
+
+-- it holds of all that may stop words
+record HoldsOfAll (P : Stop → Type 0) : Type 0 where
+  word : (f : Fault) → (stop_status (stop.Fault f) ≡ 2) ⊎ (stop_status (stop.Fault f) ≡ 10) → P (stop.Fault f)
+  later : P (stop.Fault NotYet)
+  text : (at : ℕ) (kind : TextKind) → P (stop.Fault (TextFault at kind))
+  filters : P (stop.Fault (Limit Filters 0 most_filters))
+  option : (n : ℕ) (e : OptionError) → P (option_stop n e)
+  plan : (f : PlanFault) → P (plan_stop f)
+
+same_stop : {a b : Stop} → ◌≡◌ {A = Result Request Stop} (Err a) (Err b) → a ≡ b
+same_stop e = cc
+
+module _ (P : Stop → Type 0) (holds : HoldsOfAll P) where
+  by_same : (stops other : Stop) → ◌≡◌ {A = Result Request Stop} (Err stops) (Err other) → P other → P stops
+  by_same stops other e h = subst P (sym (same_stop e)) h
+
+  call_refusal : (n : ℕ) (calls : List FilterCall) (stops : Stop) → IsRefusedCall n calls stops → P stops
+  call_refusal n [] stops h = absurd h
+  call_refusal n (c ∷ cs) stops (inl h) = subst P (sym h.2) (holds.option n h.0)
+  call_refusal n (c ∷ cs) stops (inr h) = call_refusal (n + 1) cs stops h.2
+
+  plan_asks : (command : Command) (calls : List FilterCall) (plan : Plan) (stops : Stop) → AsksPlan command calls plan (Err stops) → P stops
+  plan_asks command calls plan stops (inl h) = by_same stops (stop.Fault NotYet) h.1 holds.later
+  plan_asks command calls plan stops (inr h) = absurd (let e = h.2.2 in cc)
+
+  draft_asks : (command : Command) (calls : List FilterCall) (draft : DraftPlan) (stops : Stop) → AsksDraft command calls draft (Err stops) → P stops
+  draft_asks command calls draft stops (inl h) = by_same stops (plan_stop h.0) h.2 (holds.plan h.0)
+  draft_asks command calls draft stops (inr h) = plan_asks command calls h.0 stops h.2
+
+  kinds_ask : (command : Command) (calls : List FilterCall) (kinds : List Kind) (stops : Stop) → AsksKinds command calls kinds (Err stops) → P stops
+  kinds_ask command calls kinds stops (inl h) = by_same stops (plan_stop h.0) h.2 (holds.plan h.0)
+  kinds_ask command calls kinds stops (inr h) = draft_asks command calls h.0 stops h.2
+
+  calls_ask : (command : Command) (calls : List FilterCall) (stops : Stop) → AsksCalls command calls (Err stops) → P stops
+  calls_ask command calls stops (inl h) = by_same stops (stop.Fault (Limit Filters 0 most_filters)) h.1 holds.filters
+  calls_ask command calls stops (inr h) = after h.1
+    where
+      after : AfterStep (IsRefusedCall 0 calls) Err (AllZip IsKind calls) (AsksKinds command calls) (Err stops) → P stops
+      after (inl k) = by_same stops k.0 k.2 (call_refusal 0 calls k.0 k.1)
+      after (inr k) = kinds_ask command calls k.0 stops k.2
+
+  command_asks : (command : Command) (stops : Stop) → AsksCommand command (Err stops) → P stops
+  command_asks command stops (inl h) = by_same stops (stop.Fault NotYet) h.1 holds.later
+  command_asks command stops (inr h) = after h.1
+    where
+      after : AfterStep (HasTextFault command.text) refuse (IsGraph command.text) (AsksCalls command) (Err stops) → P stops
+      after (inl k) = by_same stops (stop.Fault k.0) k.2 (subst (λ (f : Fault). P (stop.Fault f)) (sym k.1.fault_is) (holds.text (length command.text - length k.1.bad) k.1.kind))
+      after (inr k) = calls_ask command k.0 stops k.2
+
+  asks_all : (words : List (List ℕ)) (stops : Stop) → Asks words (Err stops) → P stops
+  asks_all words stops (inl h) = by_same stops (stop.Fault h.0) h.2 (holds.word h.0 (word_status words h.0 h.1))
+  asks_all words stops (inr h) = command_asks h.0 stops h.2
+
+-- ---- it is no fault of the host
 
 -- no count rises with this
 abbrev NoRise : Type 0 → Faults → Stop → Type 0
@@ -403,11 +451,6 @@ option_counts T faults n option.MissingOption = refl
 option_counts T faults n option.NotYet = refl
 option_counts T faults n option.NoMemory = refl
 
-call_counts : (T : Type 0) (faults : Faults) (n : ℕ) (calls : List FilterCall) (stops : Stop) → IsRefusedCall n calls stops → NoRise T faults stops
-call_counts T faults n [] stops h = absurd h
-call_counts T faults n (c ∷ cs) stops (inl h) = subst (NoRise T faults) (sym h.2) (option_counts T faults n h.0)
-call_counts T faults n (c ∷ cs) stops (inr h) = call_counts T faults (n + 1) cs stops h.2
-
 plan_counts : (T : Type 0) (faults : Faults) (f : PlanFault) → NoRise T faults (plan_stop f)
 plan_counts T faults plan.TooManyLinks = refl
 plan_counts T faults (plan.PadCount filter) = refl
@@ -420,94 +463,91 @@ plan_counts T faults (plan.NoSuchOutput output) = refl
 plan_counts T faults (plan.Unmapped filter pad) = refl
 plan_counts T faults (plan.WrongKind output) = refl
 
-same_stop : {a b : Stop} → ◌≡◌ {A = Result Request Stop} (Err a) (Err b) → a ≡ b
-same_stop e = cc
+pub asks_counts : (T : Type 0) (faults : Faults) (words : List (List ℕ)) (stops : Stop) → Asks words (Err stops) → CountsStop {T = T} (Err stops) faults faults
+asks_counts T faults words stops asks =
+    asks_all (NoRise T faults) (record { word = word_counts T faults; later = refl; text = λ at kind. refl; filters = refl; option = option_counts T faults; plan = plan_counts T faults }) words stops asks
 
-module _ (T : Type 0) (faults : Faults) where
-  by_same : (stops other : Stop) → ◌≡◌ {A = Result Request Stop} (Err stops) (Err other) → NoRise T faults other → NoRise T faults stops
-  by_same stops other e h = subst (NoRise T faults) (sym (same_stop e)) h
+-- ---- it has none of the statuses of files
 
-  plan_asks : (command : Command) (calls : List FilterCall) (plan : Plan) (stops : Stop) → AsksPlan command calls plan (Err stops) → NoRise T faults stops
-  plan_asks command calls plan stops (inl h) = by_same stops (stop.Fault NotYet) h.1 refl
-  plan_asks command calls plan stops (inr h) = absurd (let e = h.2.2 in cc)
+abbrev NoFile : Stop → Type 0
+NoFile stops = (stop_status stops ≤ 5) ⊎ (10 ≤ stop_status stops)
 
-  draft_asks : (command : Command) (calls : List FilterCall) (draft : DraftPlan) (stops : Stop) → AsksDraft command calls draft (Err stops) → NoRise T faults stops
-  draft_asks command calls draft stops (inl h) = by_same stops (plan_stop h.0) h.2 (plan_counts T faults h.0)
-  draft_asks command calls draft stops (inr h) = plan_asks command calls h.0 stops h.2
+word_no_file : (n : ℕ) → (n ≡ 2) ⊎ (n ≡ 10) → (n ≤ 5) ⊎ (10 ≤ n)
+word_no_file n (inl e) = inl (omega arith)
+word_no_file n (inr e) = inr (omega arith)
 
-  kinds_ask : (command : Command) (calls : List FilterCall) (kinds : List Kind) (stops : Stop) → AsksKinds command calls kinds (Err stops) → NoRise T faults stops
-  kinds_ask command calls kinds stops (inl h) = by_same stops (plan_stop h.0) h.2 (plan_counts T faults h.0)
-  kinds_ask command calls kinds stops (inr h) = draft_asks command calls h.0 stops h.2
+option_no_file : (n : ℕ) (e : OptionError) → NoFile (option_stop n e)
+option_no_file n option.UnknownFilter = inl (omega arith)
+option_no_file n (option.UnknownOption k) = inl (omega arith)
+option_no_file n (option.TooManyValues k) = inl (omega arith)
+option_no_file n (option.BadValue k) = inl (omega arith)
+option_no_file n option.MissingOption = inl (omega arith)
+option_no_file n option.NotYet = inr (omega arith)
+option_no_file n option.NoMemory = inr (omega arith)
 
-  calls_ask : (command : Command) (calls : List FilterCall) (stops : Stop) → AsksCalls command calls (Err stops) → NoRise T faults stops
-  calls_ask command calls stops (inl h) = by_same stops (stop.Fault (Limit Filters 0 most_filters)) h.1 refl
-  calls_ask command calls stops (inr h) = after h.1
-    where
-      after : AfterStep (IsRefusedCall 0 calls) Err (AllZip IsKind calls) (AsksKinds command calls) (Err stops) → NoRise T faults stops
-      after (inl k) = by_same stops k.0 k.2 (call_counts T faults 0 calls k.0 k.1)
-      after (inr k) = kinds_ask command calls k.0 stops k.2
+plan_no_file : (f : PlanFault) → NoFile (plan_stop f)
+plan_no_file plan.TooManyLinks = inr (omega arith)
+plan_no_file (plan.PadCount filter) = inl (omega arith)
+plan_no_file (plan.LabelTwice filter) = inl (omega arith)
+plan_no_file (plan.UnknownInput filter) = inl (omega arith)
+plan_no_file (plan.MediaMismatch filter) = inl (omega arith)
+plan_no_file (plan.Cycle filter) = inl (omega arith)
+plan_no_file (plan.OpenPad filter pad) = inl (omega arith)
+plan_no_file (plan.NoSuchOutput output) = inl (omega arith)
+plan_no_file (plan.Unmapped filter pad) = inl (omega arith)
+plan_no_file (plan.WrongKind output) = inl (omega arith)
 
-  command_asks : (command : Command) (stops : Stop) → AsksCommand command (Err stops) → NoRise T faults stops
-  command_asks command stops (inl h) = by_same stops (stop.Fault NotYet) h.1 refl
-  command_asks command stops (inr h) = after h.1
-    where
-      after : AfterStep (HasTextFault command.text) refuse (IsGraph command.text) (AsksCalls command) (Err stops) → NoRise T faults stops
-      after (inl k) = by_same stops (stop.Fault k.0) k.2 (subst (λ (f : Fault). NoRise T faults (stop.Fault f)) (sym k.1.fault_is) refl)
-      after (inr k) = calls_ask command k.0 stops k.2
-
-  pub asks_counts : (words : List (List ℕ)) (stops : Stop) → Asks words (Err stops) → CountsStop {T = T} (Err stops) faults faults
-  asks_counts words stops (inl h) = by_same stops (stop.Fault h.0) h.2 (word_counts T faults h.0 (word_status words h.0 h.1))
-  asks_counts words stops (inr h) = command_asks h.0 stops h.2
+pub asks_no_file : (words : List (List ℕ)) (stops : Stop) → Asks words (Err stops) → (stop_status stops ≤ 5) ⊎ (10 ≤ stop_status stops)
+asks_no_file words stops asks =
+    asks_all NoFile (record { word = λ f h. word_no_file (stop_status (stop.Fault f)) h; later = inr (omega arith); text = λ at kind. inl (omega arith); filters = inr (omega arith); option = option_no_file; plan = plan_no_file }) words stops asks
 
 -- ---- the filters of a request are known
-
-known_from : (path : List Step) → ((k : ℕ) (step : Step) → slice_get path k ≡ Some step → (kind : Kind) × IsKind step.call kind) → AreKnown path
-known_from [] each = tt
-known_from (step ∷ steps) each = (each 0 step refl, known_from steps (λ k s is. each (suc k) s is))
 
 request_is : {a b : Request} → ◌≡◌ {A = Result Request Stop} (Ok a) (Ok b) → a ≡ b
 request_is e = cc
 
-plan_known : (command : Command) (calls : List FilterCall) (kinds : List Kind) (plan : Plan) (request : Request) → AllZip IsKind calls kinds → AsksPlan command calls plan (Ok request) → AreKnown request.path
-plan_known command calls kinds plan request zip (inl h) = absurd (let e = h.1 in cc)
-plan_known command calls kinds plan request zip (inr h) =
-    subst (λ (r : Request). AreKnown r.path) (sym (request_is h.2.2)) (known_from h.2.0.path (steps_known calls kinds plan.order h.2.0.path zip h.2.1.steps))
+flow_known : (command : Command) (calls : List FilterCall) (kinds : List Kind) (plan : Plan) (names : List ℕ × List ℕ) (request : Request) → AllZip IsKind calls kinds → IsRequest command calls plan names request → IsKnownFlow request.flow
+flow_known command calls kinds plan names request zip is = record {
+  kinds = kinds;
+  are_kinds = subst (λ (cs : List FilterCall). AllZip IsKind cs kinds) (sym is.calls_are) zip;
+  order = plan.order;
+  have_path = subst (λ (ls : List Edge). HavePath ls plan.order) (sym is.links_are) (λ link has. (is.is_path link).1 has);
+  steps = subst (λ (cs : List FilterCall). AreSteps cs plan.order request.flow.path) (sym is.calls_are) is.steps;
+}
 
-draft_known : (command : Command) (calls : List FilterCall) (kinds : List Kind) (draft : DraftPlan) (request : Request) → AllZip IsKind calls kinds → AsksDraft command calls draft (Ok request) → AreKnown request.path
+plan_known : (command : Command) (calls : List FilterCall) (kinds : List Kind) (plan : Plan) (request : Request) → AllZip IsKind calls kinds → AsksPlan command calls plan (Ok request) → IsKnownFlow request.flow
+plan_known command calls kinds plan request zip (inl h) = absurd (let e = h.1 in cc)
+plan_known command calls kinds plan request zip (inr h) = subst (λ (r : Request). IsKnownFlow r.flow) (sym (request_is h.2.2)) (flow_known command calls kinds plan h.0 h.2.0 zip h.2.1)
+
+draft_known : (command : Command) (calls : List FilterCall) (kinds : List Kind) (draft : DraftPlan) (request : Request) → AllZip IsKind calls kinds → AsksDraft command calls draft (Ok request) → IsKnownFlow request.flow
 draft_known command calls kinds draft request zip (inl h) = absurd (let e = h.2 in cc)
 draft_known command calls kinds draft request zip (inr h) = plan_known command calls kinds h.0 request zip h.2
 
-kinds_known : (command : Command) (calls : List FilterCall) (kinds : List Kind) (request : Request) → AllZip IsKind calls kinds → AsksKinds command calls kinds (Ok request) → AreKnown request.path
+kinds_known : (command : Command) (calls : List FilterCall) (kinds : List Kind) (request : Request) → AllZip IsKind calls kinds → AsksKinds command calls kinds (Ok request) → IsKnownFlow request.flow
 kinds_known command calls kinds request zip (inl h) = absurd (let e = h.2 in cc)
 kinds_known command calls kinds request zip (inr h) = draft_known command calls kinds h.0 request zip h.2
 
-calls_known : (command : Command) (calls : List FilterCall) (request : Request) → AsksCalls command calls (Ok request) → AreKnown request.path
+calls_known : (command : Command) (calls : List FilterCall) (request : Request) → AsksCalls command calls (Ok request) → IsKnownFlow request.flow
 calls_known command calls request (inl h) = absurd (let e = h.1 in cc)
 calls_known command calls request (inr h) = after h.1
   where
-    after : AfterStep (IsRefusedCall 0 calls) Err (AllZip IsKind calls) (AsksKinds command calls) (Ok request) → AreKnown request.path
+    after : AfterStep (IsRefusedCall 0 calls) Err (AllZip IsKind calls) (AsksKinds command calls) (Ok request) → IsKnownFlow request.flow
     after (inl k) = absurd (let e = k.2 in cc)
     after (inr k) = kinds_known command calls k.0 request k.1 k.2
 
-command_known : (command : Command) (request : Request) → AsksCommand command (Ok request) → AreKnown request.path
+command_known : (command : Command) (request : Request) → AsksCommand command (Ok request) → IsKnownFlow request.flow
 command_known command request (inl h) = absurd (let e = h.1 in cc)
 command_known command request (inr h) = after h.1
   where
-    after : AfterStep (HasTextFault command.text) refuse (IsGraph command.text) (AsksCalls command) (Ok request) → AreKnown request.path
+    after : AfterStep (HasTextFault command.text) refuse (IsGraph command.text) (AsksCalls command) (Ok request) → IsKnownFlow request.flow
     after (inl k) = absurd (let e = k.2 in cc)
     after (inr k) = calls_known command k.0 request k.2
 
-pub request_known : (words : List (List ℕ)) (request : Request) → Asks words (Ok request) → AreKnown request.path
+pub request_known : (words : List (List ℕ)) (request : Request) → Asks words (Ok request) → IsKnownFlow request.flow
 request_known words request (inl h) = absurd (let e = h.2 in cc)
 request_known words request (inr h) = command_known h.0 request h.2
 
 -- ---- what the code keeps of a request
-
-kind_at : (calls : List FilterCall) (kinds : List Kind) (n : ℕ) (call : FilterCall) → AllZip IsKind calls kinds → slice_get calls n ≡ Some call → (kind : Kind) × (slice_get kinds n ≡ Some kind) × IsKind call kind
-kind_at [] kinds n call zip e = absurd cc
-kind_at (c ∷ cs) [] n call zip e = absurd zip
-kind_at (c ∷ cs) (k ∷ ks) zero call zip e = (k, refl, subst (λ (d : FilterCall). IsKind d k) (same_Some c call e) zip.0)
-kind_at (c ∷ cs) (k ∷ ks) (suc n) call zip e = kind_at cs ks n call zip.1 e
 
 pub of_path : (calls : List FilterCall) (kinds : List Kind) (order : List ℕ) (path : List Step) → AllZip IsKind calls kinds → AreSteps calls order path → AreOfPath kinds order path
 of_path calls kinds [] [] zip are = tt

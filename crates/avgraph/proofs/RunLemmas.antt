@@ -1,5 +1,5 @@
 -- The loop that reads frames, passes them through the filters and writes them.
-use Rattle.std.proofs.Common.{◌≡◌, ◌≤◌, ◌*◌, ◌^◌, ℕ, ◌+◌, List, [], ◌∷◌, ◌++◌, take, drop, length, Err, refl, ◌∙◌, ap, sym, subst, arith, length-append}
+use Rattle.std.proofs.Common.{◌≡◌, ◌≤◌, ◌*◌, ◌^◌, ℕ, ◌+◌, ◌-◌, List, [], ◌∷◌, ◌++◌, take, drop, length, Err, refl, ◌∙◌, ap, sym, subst, arith, length-append}
 use Rattle.std.specs.Option.{ForSome}
 use Rattle.std.proofs.lemmas.List.{append-nil, take-append-le, length_push}
 use Rattle.std.proofs.Math.Seq.{take-append-add, take-length}
@@ -9,10 +9,14 @@ use Rattle.av_host.specs.Calls.{Reads, Changes, appended}
 use Rattle.av_host.proofs.Runs.{Takes-nil, Takes-append, Alters-nil, Alters-append, Reads-nil}
 use Rattle.av_frame.specs.Frames.{FrameValue}
 use Rattle.std.proofs.Math.Nat.{min-eq_left}
-use Rattle.y4m_io.specs.FrameTexts.{frame_mark, picture_text, frame_text, frames_text, IsFrameAt, AreFramesFrom}
+use Rattle.y4m_io.specs.FrameTexts.{picture_text, frame_text, frames_text, IsFrameAt, AreFramesThen}
+use Rattle.y4m_io.specs.Files.{IsDamage}
+use Rattle.y4m_io.proofs.FrameListLemmas.{frames_text-push}
+use Rattle.y4m_io.proofs.MarkLemmas.{length-mark}
+use Rattle.y4m_io.proofs.FrameRuns.{AreFramesThen-append, AreFramesThen-rest}
 use Rattle.avgraph.specs.Chains.{through, passed}
 use Rattle.av_host.specs.HostRuns.{ReadsSome, WritesPart}
-use Rattle.y4m_io.specs.Reading.{Reading, GivesFrame, GivesEnd, Gives}
+use Rattle.y4m_io.specs.Reading.{Reading, GivesFrame, GivesEnd, IsPlaced, Gives}
 use Rattle.av_frame.specs.declared.faults.NextError.{NextError}
 use Rattle.av_frame.specs.declared.faults.NextError.TheVariants as next
 use Rattle.av_frame.specs.declared.faults.WriteError.{WriteError}
@@ -21,12 +25,13 @@ use Rattle.y4m_io.specs.Writing.{Writing, counted}
 use Rattle.y4m_io.specs.declared.y4m_state.Progress.{Progress}
 use Rattle.y4m_io.specs.declared.y4m_state.Progress.TheVariants.{Started}
 use Rattle.avgraph.specs.declared.report.Counts.{Counts}
-use Rattle.avgraph.specs.Running.{Moves, MovesAll, MovesWhole, MovesPart, IsNoFrames, Runs, passed_text, stop_of_next, stop_of_write}
+use Rattle.avgraph.specs.Running.{Moves, AreWhole, MovesAll, MovesWhole, MovesPart, IsDamagedAfter, Damaged, Broken, Runs, passed_text, stop_of_write}
+use Rattle.avgraph.specs.Stops.{IsHostStop, next_stop}
 use Rattle.node_core.specs.Shaping.{ReadyValue}
-use Rattle.av_faults.specs.declared.fault.Fault.TheVariants.{NotYet}
+use Rattle.av_faults.specs.declared.fault.Fault.TheVariants.{ReadFault}
+use Rattle.av_faults.specs.declared.fault.Stop.{Stop}
 use Rattle.av_faults.specs.declared.fault.Stop.TheVariants as stop
 use Rattle.avgraph.proofs.ChainLemmas.{through-nil, through-push}
-use Rattle.y4m_io.proofs.FrameListLemmas.{frames_text-push, AreFramesFrom-push, frames_after, IsStuck, stuck_bad, stuck_truncated, stuck_past}
 
 -- ---- texts of frames
 
@@ -58,18 +63,20 @@ Moves-changes {put = put} ys p q = record {
 -- `bytes` that were written `start` are the header.
 pub record SoFar (shape : Shape) (readies : List ReadyValue) (total start : ℕ) (old new : World) (input output room frames bytes : ℕ) : Type 0 where
   pub got : List FrameValue
-  pub are_frames : AreFramesFrom shape 0 got
+  pub text : List ℕ
+  pub are_frames : AreFramesThen shape 0 text got []
   pub count : length got ≡ frames
-  pub size : length (frames_text got) + room ≡ total
+  pub size : length text + room ≡ total
   pub six : 6 * frames + room ≤ total
   pub bytes_are : bytes ≡ start + length (passed_text readies got)
   pub small : length (passed_text readies got) ≤ 67_108_870 * frames
-  pub moves : Moves old new input output (frames_text got) (passed_text readies got)
+  pub moves : Moves old new input output text (passed_text readies got)
 
 pub SoFar-none : (shape : Shape) (readies : List ReadyValue) (total start : ℕ) (w : World) (input output : ℕ) → SoFar shape readies total start w w input output total 0 start
 SoFar-none shape readies total start w input output = record {
   got = [];
-  are_frames = tt;
+  text = [];
+  are_frames = refl;
   count = refl;
   size = omega arith;
   six = omega arith;
@@ -78,62 +85,91 @@ SoFar-none shape readies total start w input output = record {
   moves = subst (λ (z : List ℕ). Moves w w input output [] z) (sym (ap frames_text (through-nil readies))) (Moves-nil w input output);
 }
 
--- a frame couldn't be read
-pub SoFar-whole : {shape : Shape} {readies : List ReadyValue} {total start : ℕ} {a b c : World} {input output room frames bytes : ℕ} → SoFar shape readies total start a b input output room frames bytes → ReadsSome b c input → MovesWhole shape readies total a c input output
-SoFar-whole s r = record { frames = s.got; rest = r.0; are_frames = s.are_frames; within = let size = s.size in omega arith; moves = Moves-reads s.moves r.1 }
+-- what was read so far is whole
+are_whole : {shape : Shape} {readies : List ReadyValue} {total start : ℕ} {a b : World} {input output room frames bytes : ℕ} (s : SoFar shape readies total start a b input output room frames bytes) → AreWhole shape total s.text s.got
+are_whole s = record { are_frames = s.are_frames; within = let size = s.size in omega arith }
 
--- what was left when the loop began isn't the text of frames either
-pub SoFar-stuck : {shape : Shape} {readies : List ReadyValue} {total start : ℕ} {a b : World} {input output room frames bytes : ℕ} → SoFar shape readies total start a b input output room frames bytes → ForSome (b.inputs.left input) (IsStuck shape room) → ForSome (a.inputs.left input) (IsNoFrames shape total)
-SoFar-stuck {shape} {readies} {total} {start} {a} {b} {input} {output} {room} {frames} {bytes} s stuck = λ x e others are text within.
-    let rest = drop (length (frames_text s.got)) x in
-    let begins = s.moves.inputs.begins x e in
-    let others = frames_after shape 0 s.got others rest s.are_frames are (sym text ∙ begins) in
-    stuck rest (s.moves.inputs.left x e) (0 + length s.got) others.0 others.1 others.2
-    (let size = s.size in let n = ap length begins ∙ length-append (frames_text s.got) rest in omega arith)
+-- what was left when the loop began is damaged after these frames
+pub SoFar-damage : {shape : Shape} {readies : List ReadyValue} {total start : ℕ} {a b : World} {input output room frames bytes : ℕ} (s : SoFar shape readies total start a b input output room frames bytes) (e : NextError)
+    → ForSome (b.inputs.left input) (λ rest. IsDamage shape room frames rest e) → ForSome (a.inputs.left input) (IsDamagedAfter shape total s.got e)
+SoFar-damage {shape} {readies} {total} {start} {a} {b} {input} {output} {room} {frames} {bytes} s e damage = λ x is.
+    let rest = drop (length s.text) x in
+    let begins = s.moves.inputs.begins x is in
+    let long = ap length begins ∙ length-append s.text rest in
+    let size = s.size in
+    let left : room ≡ total - (length x - length rest) = omega arith in
+    record {
+      rest = rest;
+      are_frames = subst (λ (z : List ℕ). AreFramesThen shape 0 z s.got rest) (sym begins) (AreFramesThen-rest shape 0 s.text s.got rest s.are_frames);
+      is_damage = subst (λ (n : ℕ). IsDamage shape (total - (length x - length rest)) n rest e) (sym s.count)
+          (subst (λ (n : ℕ). IsDamage shape n frames rest e) left (damage rest (s.moves.inputs.left x is)));
+    }
+
+-- the run was stopped by damage after whole frames were written
+pub SoFar-damaged : {shape : Shape} {readies : List ReadyValue} {total start : ℕ} {a b c : World} {input output room frames bytes : ℕ} (s : SoFar shape readies total start a b input output room frames bytes) (e : NextError)
+    → IsPlaced shape room frames e → ReadsSome b c input → ForSome (b.inputs.left input) (λ rest. IsDamage shape room frames rest e) → (m : MovesWhole shape readies total a c input output) × IsPlaced shape (total - length m.got) (length m.frames) e × ForSome (a.inputs.left input) (IsDamagedAfter shape total m.frames e)
+SoFar-damaged {shape} {readies} {total} {start} {a} {b} {c} {input} {output} {room} {frames} {bytes} s e placed r damage = (
+  record { frames = s.got; got = s.text; rest = r.0; are_whole = are_whole s; moves = Moves-reads s.moves r.1 },
+  subst (λ (n : ℕ). IsPlaced shape n (length s.got) e) (let size = s.size in let left : room ≡ total - length s.text = omega arith in left) (subst (λ (n : ℕ). IsPlaced shape room n e) (sym s.count) placed),
+  SoFar-damage s e damage,
+)
 
 -- the run was stopped after whole frames were written
 pub SoFar-part : {shape : Shape} {readies : List ReadyValue} {total start : ℕ} {a b c : World} {input output room frames bytes : ℕ} → SoFar shape readies total start a b input output room frames bytes → ReadsSome b c input → MovesPart shape readies total a c input output
-SoFar-part {readies} s r = record {
+SoFar-part {readies = readies} s r = record {
   frames = s.got;
+  got = s.text;
   rest = r.0;
   count = length (passed_text readies s.got);
-  are_frames = s.are_frames;
-  within = let size = s.size in omega arith;
+  are_whole = are_whole s;
   moves = rw take-length (Moves-reads s.moves r.1);
 }
 
 module _ {shape : Shape} {readies : List ReadyValue} {total start : ℕ} {a b c : World} {reader after : Reading} {output bytes : ℕ} (s : SoFar shape readies total start a b reader.id output reader.room reader.frames bytes) where
-  -- one more frame that is read
-  are_more : {f : FrameValue} → GivesFrame shape b c reader after f → AreFramesFrom shape 0 (s.got ++ f ∷ [])
-  are_more {f} g = AreFramesFrom-push shape 0 s.got f s.are_frames (subst (λ (n : ℕ). IsFrameAt shape n f) (let e = s.count in let h : reader.frames ≡ 0 + length s.got = omega arith in h) g.frame)
+  module _ {f : FrameValue} (g : GivesFrame shape b c reader after f) where
+    -- the text with one more frame that is read
+    abbrev text_more : List ℕ
+    text_more = s.text ++ (g.mark ++ picture_text f.planes)
 
-  moves_more : {f : FrameValue} → GivesFrame shape b c reader after f → Moves a c reader.id output (frames_text (s.got ++ f ∷ [])) (passed_text readies s.got)
-  moves_more {f} g = rw frames_text-push (Moves-reads s.moves g.reads)
+    long_more : length text_more ≡ length s.text + length (g.mark ++ picture_text f.planes)
+    long_more = length-append s.text (g.mark ++ picture_text f.planes)
 
-  -- what was read is within the limit
-  within_more : {f : FrameValue} → GivesFrame shape b c reader after f → length (frames_text (s.got ++ f ∷ [])) ≤ total
-  within_more {f} g =
-      let whole = ap length (frames_text-push s.got f) ∙ length-append (frames_text s.got) (frame_text f.planes) in
-      let size = s.size in
-      let within = g.within in
-      omega arith
+    are_more : AreFramesThen shape 0 text_more (s.got ++ f ∷ []) []
+    are_more =
+        AreFramesThen-append shape 0 s.text (g.mark ++ picture_text f.planes) s.got (f ∷ []) [] s.are_frames (
+          g.mark,
+          [],
+          g.is_mark,
+          subst (λ (n : ℕ). IsFrameAt shape n f) (let e = s.count in let h : reader.frames ≡ 0 + length s.got = omega arith in h) g.frame,
+          ap (λ (z : List ℕ). g.mark ++ z) (sym (append-nil (picture_text f.planes))),
+          refl,
+        )
+
+    moves_more : Moves a c reader.id output text_more (passed_text readies s.got)
+    moves_more = Moves-reads s.moves g.reads
+
+    -- what was read is within the limit
+    whole_more : AreWhole shape total text_more (s.got ++ f ∷ [])
+    whole_more = record { are_frames = are_more; within = let long = long_more in let size = s.size in let within = g.within in omega arith }
 
   pub SoFar-more : {d : World} {f : FrameValue} → GivesFrame shape b c reader after f → Changes c d output (appended (frame_text (passed readies f).planes)) → length (frame_text (passed readies f).planes) ≤ 67_108_870
       → SoFar shape readies total start a d reader.id output after.room after.frames (bytes + length (frame_text (passed readies f).planes))
   SoFar-more {d} {f} g q large = record {
     got = s.got ++ f ∷ [];
+    text = text_more g;
     are_frames = are_more g;
     count = length_push s.got f ∙ (ap (λ (n : ℕ). n + 1) s.count ∙ sym (ap (λ (r : Reading). r.frames) g.after_is));
     size =
         let room = ap (λ (r : Reading). r.room) g.after_is in
-        let whole = ap length (frames_text-push s.got f) ∙ length-append (frames_text s.got) (frame_text f.planes) in
+        let long = long_more g in
         let size = s.size in
         let within = g.within in
         omega arith;
     six =
         let room = ap (λ (r : Reading). r.room) g.after_is in
         let frames = ap (λ (r : Reading). r.frames) g.after_is in
-        let text = length-append frame_mark (picture_text f.planes) in
+        let text = length-append g.mark (picture_text f.planes) in
+        let mark = length-mark g.is_mark in
         let six = s.six in
         let within = g.within in
         omega arith;
@@ -156,24 +192,24 @@ module _ {shape : Shape} {readies : List ReadyValue} {total start : ℕ} {a b c 
   pub SoFar-done : (counts : Counts) → counts.frames ≡ reader.frames → counts.bytes ≡ bytes → GivesEnd b c reader after → MovesAll shape readies total start a c reader.id output counts
   SoFar-done counts frames_are bytes_now g = record {
     frames = s.got;
-    are_frames = s.are_frames;
-    within = let size = s.size in omega arith;
+    got = s.text;
+    are_whole = are_whole s;
     frames_counted = frames_are ∙ sym s.count;
     bytes_counted = bytes_now ∙ s.bytes_are;
     moves = rw append-nil at (Moves-reads s.moves g.reads);
     all = λ x e.
         s.moves.inputs.begins x e
-        ∙ (ap (λ (z : List ℕ). frames_text s.got ++ z) (g.ended (drop (length (frames_text s.got)) x) (s.moves.inputs.left x e)) ∙ append-nil (frames_text s.got));
+        ∙ (ap (λ (z : List ℕ). s.text ++ z) (g.ended (drop (length s.text) x) (s.moves.inputs.left x e)) ∙ append-nil s.text);
   }
 
   -- the run was stopped after a frame was read
   pub SoFar-read : {f : FrameValue} → GivesFrame shape b c reader after f → MovesPart shape readies total a c reader.id output
   SoFar-read {f} g = record {
     frames = s.got ++ f ∷ [];
+    got = text_more g;
     rest = [];
-    within = within_more g;
     count = length (passed_text readies s.got);
-    are_frames = are_more g;
+    are_whole = whole_more g;
     moves = rw (append-nil, passed_text-push, take-append-le (length (passed_text readies s.got)) (passed_text readies s.got) (frame_text (passed readies f).planes) (omega arith), take-length) (moves_more g);
   }
 
@@ -181,10 +217,10 @@ module _ {shape : Shape} {readies : List ReadyValue} {total start : ℕ} {a b c 
   pub SoFar-write_part : {d : World} {f : FrameValue} → GivesFrame shape b c reader after f → WritesPart c d output (frame_text (passed readies f).planes) → MovesPart shape readies total a d reader.id output
   SoFar-write_part {d} {f} g q = record {
     frames = s.got ++ f ∷ [];
+    got = text_more g;
     rest = [];
-    within = within_more g;
     count = length (passed_text readies s.got) + q.0;
-    are_frames = are_more g;
+    are_whole = whole_more g;
     moves = rw (append-nil, passed_text-push, take-append-add (passed_text readies s.got) (frame_text (passed readies f).planes) q.0) (Moves-changes (take q.0 (frame_text (passed readies f).planes)) (moves_more g) q.1);
   }
 
@@ -220,39 +256,39 @@ module _ (shape : Shape) (readies : List ReadyValue) {a b : World} (reader first
       subst (λ (x : FrameValue). SoFar shape readies first.room writer.bytes a d after.id writer.id after.room after.frames (now.bytes + length (frame_text x.planes))) (sym e)
       (subst (λ (n : ℕ). SoFar shape readies first.room writer.bytes a d n writer.id after.room after.frames (now.bytes + length (frame_text (passed readies f).planes))) (sym (ap (λ (r : Reading). r.id) g.after_is)) (SoFar-more s g changes small))
 
-  stuck_run : {c : World} → reader.id ≡ first.id → ReadsSome b c reader.id → ForSome (b.inputs.left reader.id) (IsStuck shape reader.room) → Runs shape readies a c first writer (Err (stop.Fault NotYet))
-  stuck_run {c} same r stuck = (
-    subst (λ (id : ℕ). MovesWhole shape readies first.room a c id writer.id) same (SoFar-whole s r),
-    subst (λ (id : ℕ). ForSome (a.inputs.left id) (IsNoFrames shape first.room)) same (SoFar-stuck s stuck),
-  )
+  damaged_run : (limit : ℕ) (c : World) (e : NextError) → reader.id ≡ first.id → IsPlaced shape reader.room reader.frames e → ReadsSome b c reader.id → ForSome (b.inputs.left reader.id) (λ rest. IsDamage shape reader.room reader.frames rest e) → ¬ IsHostStop (next_stop limit e)
+      → Runs limit shape readies a c first writer (Err (next_stop limit e))
+  damaged_run limit c e same placed r damage no_host =
+      let halted = subst (λ (id : ℕ). (m : MovesWhole shape readies first.room a c id writer.id) × IsPlaced shape (first.room - length m.got) (length m.frames) e × ForSome (a.inputs.left id) (IsDamagedAfter shape first.room m.frames e)) same (SoFar-damaged s e placed r damage) in
+      Damaged e halted.0 halted.1 halted.2 refl no_host
 
-  part_run : {c : World} → reader.id ≡ first.id → ReadsSome b c reader.id → MovesPart shape readies first.room a c first.id writer.id
-  part_run {c} same r = subst (λ (id : ℕ). MovesPart shape readies first.room a c id writer.id) same (SoFar-part s r)
+  part_run : (limit : ℕ) {c : World} (stops : Stop) → IsHostStop stops → reader.id ≡ first.id → ReadsSome b c reader.id → Runs limit shape readies a c first writer (Err stops)
+  part_run limit {c} stops host same r = Broken host (subst (λ (id : ℕ). MovesPart shape readies first.room a c id writer.id) same (SoFar-part s r))
 
   -- the next frame couldn't be read
-  pub next_refused : (c : World) (after : Reading) (error : NextError) → reader.id ≡ first.id → Gives shape b c reader after (Err error) → Runs shape readies a c first writer (Err (stop_of_next error))
-  next_refused c after (next.BadFrame k) same g = stuck_run same g.1.reads (λ x e. stuck_bad shape reader.room x (g.1.cause x e))
-  next_refused c after (next.Truncated k) same g = stuck_run same g.1.reads (λ x e. stuck_truncated shape reader.room x (g.1.cause x e))
-  next_refused c after next.TooLong same g = stuck_run same g.reads (λ x e. stuck_past shape reader.room x (g.cause x e))
-  next_refused c after next.Host same g = part_run same g.reads
-  next_refused c after next.NoMemory same g = part_run same ([], subst (λ (w : World). Reads b w reader.id []) (sym g.0) (Reads-nil b reader.id))
+  pub next_refused : (limit : ℕ) (c : World) (after : Reading) (error : NextError) → reader.id ≡ first.id → Gives shape b c reader after (Err error) → Runs limit shape readies a c first writer (Err (next_stop limit error))
+  next_refused limit c after (next.BadFrame k) same g = damaged_run limit c (next.BadFrame k) same g.0 g.1.reads (λ x e. (g.0.0, g.1.cause x e)) (λ h. h)
+  next_refused limit c after (next.Truncated k) same g = damaged_run limit c (next.Truncated k) same g.0 g.1.reads (λ x e. (g.0.0, g.1.cause x e)) (λ h. h)
+  next_refused limit c after next.TooLong same g = damaged_run limit c next.TooLong same g.0 g.1.reads (λ x e. g.1.cause x e) (λ h. h)
+  next_refused limit c after next.Host same g = part_run limit (stop.Fault ReadFault) tt same g.reads
+  next_refused limit c after next.NoMemory same g = part_run limit stop.NoMemory tt same ([], subst (λ (w : World). Reads b w reader.id []) (sym g.0) (Reads-nil b reader.id))
 
   -- there was no memory for the frame after a filter
-  pub pass_refused : {c : World} {after : Reading} {f : FrameValue} → reader.id ≡ first.id → GivesFrame shape b c reader after f → MovesPart shape readies first.room a c first.id writer.id
-  pass_refused {c} same g = subst (λ (id : ℕ). MovesPart shape readies first.room a c id writer.id) same (SoFar-read s g)
+  pub pass_refused : (limit : ℕ) {c : World} {after : Reading} {f : FrameValue} → reader.id ≡ first.id → GivesFrame shape b c reader after f → Runs limit shape readies a c first writer (Err stop.NoMemory)
+  pass_refused limit {c} same g = Broken tt (subst (λ (id : ℕ). MovesPart shape readies first.room a c id writer.id) same (SoFar-read s g))
 
   -- the frame that came out was not written whole
-  pub write_refused : {c d : World} {after : Reading} {f out : FrameValue} (error : WriteError) → reader.id ≡ first.id → GivesFrame shape b c reader after f → out ≡ passed readies f
-      → WritesPart c d now.id (frame_text out.planes) → Runs shape readies a d first writer (Err (stop_of_write error))
-  write_refused {c} {d} {after} {f} {out} error same g e q =
+  pub write_refused : (limit : ℕ) {c d : World} {after : Reading} {f out : FrameValue} (error : WriteError) → reader.id ≡ first.id → GivesFrame shape b c reader after f → out ≡ passed readies f
+      → WritesPart c d now.id (frame_text out.planes) → Runs limit shape readies a d first writer (Err (stop_of_write error))
+  write_refused limit {c} {d} {after} {f} {out} error same g e q =
       let id = same_writer now writer now.bytes same_now in
       let part : WritesPart c d writer.id (frame_text (passed readies f).planes) =
       subst (λ (n : ℕ). WritesPart c d n (frame_text (passed readies f).planes)) id (subst (λ (x : FrameValue). WritesPart c d now.id (frame_text x.planes)) e q) in
       by_error error (subst (λ (n : ℕ). MovesPart shape readies first.room a d n writer.id) same (SoFar-write_part s g part))
     where
-      by_error : (x : WriteError) → MovesPart shape readies first.room a d first.id writer.id → Runs shape readies a d first writer (Err (stop_of_write x))
-      by_error write.Host p = p
-      by_error write.NoMemory p = p
+      by_error : (x : WriteError) → MovesPart shape readies first.room a d first.id writer.id → Runs limit shape readies a d first writer (Err (stop_of_write x))
+      by_error write.Host p = Broken tt p
+      by_error write.NoMemory p = Broken tt p
 
   -- all was read and written
   pub finished : {c d : World} {after : Reading} (counts : Counts) → counts.frames ≡ after.frames → counts.bytes ≡ counted now.bytes (length {A = ℕ} []) → writer.bytes ≤ 1024 → first.room ≤ 2 ^ 40 → reader.id ≡ first.id → GivesEnd b c reader after → Changes c d now.id (appended [])
@@ -265,10 +301,10 @@ module _ (shape : Shape) (readies : List ReadyValue) {a b : World} (reader first
       subst (λ (n : ℕ). MovesAll shape readies first.room writer.bytes a d n writer.id counts) same
       (record {
         frames = all.frames;
-        are_frames = all.are_frames;
-        within = all.within;
+        got = all.got;
+        are_whole = all.are_whole;
         frames_counted = all.frames_counted;
         bytes_counted = all.bytes_counted;
-        moves = subst (λ (z : List ℕ). Moves a d reader.id writer.id (frames_text all.frames) z) (append-nil (passed_text readies all.frames)) (Moves-changes [] all.moves changes);
+        moves = subst (λ (z : List ℕ). Moves a d reader.id writer.id all.got z) (append-nil (passed_text readies all.frames)) (Moves-changes [] all.moves changes);
         all = all.all;
       })

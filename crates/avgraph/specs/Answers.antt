@@ -1,25 +1,34 @@
--- What a file comes to on a path of filters, from its bytes alone.
-use Rattle.std.specs.Prelude.{◌≡◌, ◌≤◌, ◌⊎◌, ℕ, List, [], ◌∷◌, ◌++◌, length, take, Result, Ok, Err}
-use Rattle.std.specs.List.{AllByRecursion}
+-- What a file comes to for what its frames flow through, from its bytes alone.
+use Rattle.std.specs.Prelude.{◌≡◌, ◌<◌, ◌⊎◌, ℕ, List, [], ◌∷◌, ◌++◌, length, Result, Ok, Err}
+use Rattle.std.specs.List.{AllZip}
 use Rattle.av_base.specs.declared.shapes.Shape.{Shape}
+use Rattle.av_base.specs.declared.shapes.Props.{Props}
+use Rattle.av_base.specs.declared.shapes.Props.TheVariants as props
+use Rattle.av_base.specs.declared.formats.PixelFormat.TheVariants.{Gray, Yuv420p, Yuv422p, Yuv444p, Yuva444p}
 use Rattle.av_base.specs.declared.formats.Format.{Format}
+use Rattle.av_base.specs.declared.formats.Format.TheVariants.{Video}
+use Rattle.av_base.specs.declared.sets.FormatSet.{FormatSet}
 use Rattle.av_base.specs.Shapes.{IsPictureShape}
 use Rattle.graph_text.specs.declared.graph.FilterCall.{FilterCall}
+use Rattle.graph_formats.specs.Assignments.{IsChosen, IsFirstWithout}
 use Rattle.av_frame.specs.Frames.{FrameValue}
+use Rattle.av_frame.specs.declared.faults.NextError.{NextError}
 use Rattle.av_frame.specs.declared.refusals.ConfigError.{ConfigError}
-use Rattle.av_filter.specs.Outcomes.{AfterCheck, AfterStep, AfterValue}
+use Rattle.av_filter.specs.Outcomes.{AfterCheck, AfterStep}
 use Rattle.node_core.specs.declared.kind.Kind.{Kind}
 use Rattle.node_core.specs.Shaping.{ReadyValue, Takes, IsConfigFault}
 use Rattle.node_core.specs.Kinds.{IsKind}
-use Rattle.y4m_io.specs.HeaderTexts.{BeginsHeader}
-use Rattle.y4m_io.specs.Files.{IsFile, whole_text}
+use Rattle.node_core.specs.Wishing.{set_of}
+use Rattle.plan_formats.specs.Wished.{plan_wishes, plan_relations}
+use Rattle.y4m_io.specs.Heads.{HasHead, IsHeadFault}
+use Rattle.y4m_io.specs.Files.{HasFrames, HasDamage, whole_text}
 use Rattle.av_faults.specs.Reports.{input_line, output_line}
 use Rattle.av_faults.specs.declared.fault.Fault.{Fault}
-use Rattle.av_faults.specs.declared.fault.Fault.TheVariants.{NotYet, NoCommonFormat}
+use Rattle.av_faults.specs.declared.fault.Fault.TheVariants.{NoCommonFormat, NoRate}
 use Rattle.av_faults.specs.declared.fault.Stop.{Stop}
 use Rattle.av_faults.specs.declared.fault.Stop.TheVariants as stop
-use Rattle.avgraph.specs.Chains.{Step, IsReadied, AreReady, through}
-use Rattle.avgraph.specs.Stops.{config_stop}
+use Rattle.avgraph.specs.Chains.{Step, Flow, IsReadied, AreReady, through}
+use Rattle.avgraph.specs.Stops.{config_stop, head_stop, next_stop}
 
 -- ---- answers
 
@@ -46,15 +55,25 @@ answer_of readied frames = record {
   written = length (through readied.readies frames);
 }
 
+-- ---- formats
+
+-- the formats that an output file can hold
+abbrev pub y4m_formats : FormatSet
+y4m_formats = set_of (Video Gray ∷ Video Yuv420p ∷ Video Yuv422p ∷ Video Yuv444p ∷ Video Yuva444p ∷ [])
+
+-- no formats are as the filters and the files ask, and this is the lowest link of the first part that has none
+pub record LacksFormats (flow : Flow) (f : Format) (link : ℕ) : Type 0 where
+  pub kinds : List Kind
+  pub are_kinds : AllZip IsKind flow.calls kinds
+  pub lacks : IsFirstWithout (length flow.links) (plan_wishes flow.links kinds (f ∷ []) (y4m_formats ∷ [])) (plan_relations flow.links kinds) link
+
+-- these are the chosen formats of the links, where the input's pictures have a format
+pub record HasFormats (flow : Flow) (f : Format) (formats : List Format) : Type 0 where
+  pub kinds : List Kind
+  pub are_kinds : AllZip IsKind flow.calls kinds
+  pub chosen : IsChosen (length flow.links) (plan_wishes flow.links kinds (f ∷ []) (y4m_formats ∷ [])) (plan_relations flow.links kinds) formats
+
 -- ---- shapes
-
--- the call means a filter that takes pictures of the format
-abbrev pub TakesFormat : Format → Step → Type 0
-TakesFormat f step = (kind : Kind) × IsKind step.call kind × Takes kind f
-
--- all filters of the path take pictures of the format, which all links of the path have
-abbrev pub AreTaking : List Step → Format → Type 0
-AreTaking path f = AllByRecursion (TakesFormat f) path
 
 -- the call means a filter that takes pictures of the shape, and is rejected for them
 pub record IsRefused (call : FilterCall) (s : Shape) (e : ConfigError) : Type 0 where
@@ -70,30 +89,39 @@ IsUnready [] s stops = ⊥
 IsUnready (step ∷ steps) s stops = ((e : ConfigError) × IsRefused step.call s e × (stops ≡ config_stop step.number e))
     ⊎ ((ready : ReadyValue) × (u : Shape) × IsReadied step.call s ready × (ready.outs ≡ u ∷ []) × IsUnready steps u stops)
 
--- ---- files
-
--- the bytes within the limit begin with the header of pictures of a shape
-abbrev pub HasHead : ℕ → List ℕ → Shape → Type 0
-HasHead limit bytes s = (begins : BeginsHeader (take limit bytes)) × (begins.shape ≡ s)
-
--- the bytes are a file of pictures of the shape, within the limit, and these are its frames
-abbrev pub HasFrames : ℕ → List ℕ → Shape → List FrameValue → Type 0
-HasFrames limit bytes s frames = IsFile bytes s frames × (length bytes ≤ limit)
+-- pictures of which a file can state the rate
+abbrev pub HasRate : Props → Type 0
+HasRate (props.Video p) = 0 < p.rate.num
+HasRate (props.Audio p) = ⊥
 
 -- ---- what a file comes to, in the order of its checks
 
 abbrev pub reject : Fault → Result Answer Stop
 reject fault = Err (stop.Fault fault)
 
--- the file is whole
+abbrev pub stops_with : {E : Type 0} → (E → Stop) → E → Result Answer Stop
+stops_with f e = Err (f e)
+
+-- the frames before the first damage, and the damage
+abbrev pub IsDamaged : ℕ → List ℕ → Shape → List FrameValue × NextError → Type 0
+IsDamaged limit bytes s damage = HasDamage limit bytes s damage.0 damage.1
+
+-- all that follows the header are frames
 abbrev pub FramesGive : ℕ → List ℕ → Shape → Readied → Result Answer Stop → Type 0
-FramesGive limit bytes s readied = AfterValue ((frames : List FrameValue) → ¬ HasFrames limit bytes s frames) (reject NotYet) (HasFrames limit bytes s) (λ frames r. r ≡ Ok (answer_of readied frames))
+FramesGive limit bytes s readied = AfterStep (IsDamaged limit bytes s) (stops_with (λ damage. next_stop limit damage.1)) (HasFrames limit bytes s) (λ frames r. r ≡ Ok (answer_of readied frames))
 
--- the filters of the path take pictures of the shape, and are configured for them
-abbrev pub ShapeGives : ℕ → List Step → List ℕ → Shape → Result Answer Stop → Type 0
-ShapeGives limit path bytes s =
-    AfterCheck (AreTaking path s.format) (reject (NoCommonFormat 0)) (AfterStep (IsUnready path s) Err (λ readied. AreReady path s readied.readies readied.end) (FramesGive limit bytes s))
+-- the rate of the output is known
+abbrev pub RateGives : ℕ → List ℕ → Shape → Readied → Result Answer Stop → Type 0
+RateGives limit bytes s readied = AfterCheck (HasRate readied.end.props) (reject (NoRate 0)) (FramesGive limit bytes s readied)
 
--- a header of the form that is read today begins the file
-abbrev pub FileGives : ℕ → List Step → List ℕ → Result Answer Stop → Type 0
-FileGives limit path bytes = AfterValue (¬ BeginsHeader (take limit bytes)) (reject NotYet) (HasHead limit bytes) (ShapeGives limit path bytes)
+-- the filters of the path are configured, each for the shape that the one before it gives
+abbrev pub ReadyGives : ℕ → Flow → List ℕ → Shape → Result Answer Stop → Type 0
+ReadyGives limit flow bytes s = AfterStep (IsUnready flow.path s) Err (λ readied. AreReady flow.path s readied.readies readied.end) (RateGives limit bytes s)
+
+-- the links have formats
+abbrev pub ShapeGives : ℕ → Flow → List ℕ → Shape → Result Answer Stop → Type 0
+ShapeGives limit flow bytes s = AfterStep (LacksFormats flow s.format) (λ link. reject (NoCommonFormat link)) (HasFormats flow s.format) (λ formats. ReadyGives limit flow bytes s)
+
+-- the file begins with a header
+abbrev pub FileGives : ℕ → Flow → List ℕ → Result Answer Stop → Type 0
+FileGives limit flow bytes = AfterStep (IsHeadFault limit bytes) (stops_with (head_stop limit)) (HasHead limit bytes) (ShapeGives limit flow bytes)

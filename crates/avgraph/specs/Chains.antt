@@ -7,6 +7,7 @@ use Rattle.av_base.specs.Shapes.{IsPictureShape}
 use Rattle.av_frame.specs.Rules.{each_stream}
 use Rattle.av_frame.specs.Streams.{Streams, Rises}
 use Rattle.graph_text.specs.declared.graph.FilterCall.{FilterCall}
+use Rattle.graph_plan.specs.declared.plan.Edge.{Edge}
 use Rattle.node_core.specs.declared.kind.Kind.{Kind}
 use Rattle.node_core.specs.Shaping.{ReadyValue, Takes, IsReady, given, made_by}
 use Rattle.node_core.specs.Filters.{frame_filters}
@@ -24,6 +25,12 @@ pub record IsReadied (call : FilterCall) (s : Shape) (ready : ReadyValue) : Type
 pub record Step : Type 0 where
   pub number : ℕ
   pub call : FilterCall
+
+-- what frames flow through: the calls of the graph, its links, and the filters on the path from the input to the output
+pub record Flow : Type 0 where
+  pub calls : List FilterCall
+  pub links : List Edge
+  pub path : List Step
 
 -- the path's filters are ready one after the other, the first for pictures of shape s, and the last gives shape t
 abbrev pub AreReady : List Step → Shape → List ReadyValue → Shape → Type 0

@@ -1,27 +1,32 @@
 -- What a request does to the files.
-use Rattle.std.specs.Prelude.{◌≡◌, ◌≢◌, ◌⊎◌, ◌-◌, ◌≤◌, ℕ, pos, List, [], true, false, take, drop, length, Option, Some, Result, Ok, Err}
+use Rattle.std.specs.Prelude.{◌≡◌, ◌≢◌, ◌⊎◌, ◌+◌, ◌-◌, ◌<◌, ◌++◌, ℕ, pos, List, [], ◌∷◌, true, false, take, drop, length, Option, Some, Result, Ok, Err, Contains}
 use Rattle.std.specs.Option.{ForSome}
 use Rattle.av_base.specs.declared.shapes.Shape.{Shape}
+use Rattle.av_base.specs.declared.formats.Format.{Format}
 use Rattle.av_host.specs.World.{World, Inputs}
 use Rattle.av_host.specs.Calls.{Opens, Reads, Creates, Changes, appended}
 use Rattle.av_host.specs.declared.host.HostError.{HostError}
 use Rattle.av_host.specs.declared.host.HostError.TheVariants as host
 use Rattle.av_frame.specs.declared.faults.HeadError.{HeadError}
-use Rattle.av_frame.specs.declared.faults.HeadError.TheVariants as head
+use Rattle.av_frame.specs.declared.faults.NextError.{NextError}
 use Rattle.av_frame.specs.Frames.{FrameValue}
-use Rattle.y4m_io.specs.HeaderTexts.{IsHeader, BeginsHeader, header_text}
-use Rattle.y4m_io.specs.Files.{BeginsFile, open_text}
+use Rattle.y4m_header.specs.Said.{HeaderMeans}
+use Rattle.y4m_header.specs.HeaderLaws.{longest_line}
+use Rattle.y4m_header.specs.HeaderTexts.{IsWritable, header_text}
+use Rattle.y4m_io.specs.Heads.{IsHeadFault}
+use Rattle.y4m_io.specs.Files.{BeginsFile, HasDamage, open_text}
 use Rattle.y4m_io.specs.Reading.{Reading}
 use Rattle.y4m_io.specs.Writing.{Writing}
 use Rattle.y4m_io.specs.declared.y4m_state.Stage.TheVariants as stage
 use Rattle.y4m_io.specs.declared.y4m_state.Progress.TheVariants as progress
 use Rattle.node_core.specs.Shaping.{ReadyValue}
-use Rattle.av_faults.specs.declared.fault.Fault.{Fault}
-use Rattle.av_faults.specs.declared.fault.Fault.TheVariants.{NotYet, OpenFault, ReadFault, WriteFault}
+use Rattle.av_faults.specs.Faults.{stop_status}
+use Rattle.av_faults.specs.declared.fault.Fault.TheVariants.{OpenFault}
 use Rattle.av_faults.specs.declared.fault.Stop.{Stop}
 use Rattle.av_faults.specs.declared.fault.Stop.TheVariants as stop
-use Rattle.avgraph.specs.Chains.{Step, ChainValue, AreReady, through}
-use Rattle.avgraph.specs.Answers.{Answer, ShapeGives, FileGives, reject}
+use Rattle.avgraph.specs.Chains.{Step, Flow, ChainValue, AreReady, through}
+use Rattle.avgraph.specs.Answers.{Answer, Readied, HasFormats, ShapeGives, FileGives}
+use Rattle.avgraph.specs.Stops.{IsHostStop, head_stop}
 use Rattle.avgraph.specs.Requests.{Request}
 use Rattle.avgraph.specs.declared.report.Counts.{Counts}
 
@@ -32,12 +37,6 @@ MayHold held P = (bytes : List ℕ) × ForSome held (λ all. all ≡ bytes) × P
 abbrev pub stop_of_opening : HostError → Stop
 stop_of_opening host.Failed = stop.Fault OpenFault
 stop_of_opening host.NoMemory = stop.NoMemory
-
-abbrev pub stop_of_head : HeadError → Stop
-stop_of_head head.BadHeader = stop.Fault NotYet
-stop_of_head head.TooLong = stop.Fault NotYet
-stop_of_head head.Host = stop.Fault ReadFault
-stop_of_head head.NoMemory = stop.NoMemory
 
 -- The inputs that were open are open still, and as much is left of them.
 pub record KeepsInputs (old new : Inputs) : Type 0 where
@@ -66,19 +65,22 @@ pub record OpensWell (limit : ℕ) (old new : World) (name : List ℕ) (reader :
   pub opened : World
   pub line : List ℕ
   pub opens : Opens old opened name reader.id
-  pub reads : Reads opened new reader.id line
-  pub header : IsHeader line shape
-  pub within : length line ≤ limit
-  pub reader_is : reader ≡ record { id = reader.id; room = limit - length line; frames = 0; stage = stage.Headed shape }
+  pub reads : Reads opened new reader.id (line ++ 10 ∷ [])
+  pub no_feed : ¬ Contains line 10
+  pub short : length line < longest_line
+  pub within : length line < limit
+  pub means : HeaderMeans line (Ok shape)
+  pub reader_is : reader ≡ record { id = reader.id; room = limit - (length line + 1); frames = 0; stage = stage.Headed shape }
+
+-- the header of some bytes stops the command with this
+pub record IsHeadStop (limit : ℕ) (stops : Stop) (bytes : List ℕ) : Type 0 where
+  pub error : HeadError
+  pub is_fault : IsHeadFault limit bytes error
+  pub stops_is : stops ≡ head_stop limit error
 
 abbrev pub OpensFile : ℕ → World → World → List ℕ → Result (Reading × Shape) Stop → Type 0
 OpensFile limit old new name (Ok both) = OpensWell limit old new name both.0 both.1
-OpensFile limit old new name (Err (stop.Fault NotYet)) = LeavesAll old new × MayHold (old.held name) (λ bytes. ¬ BeginsHeader (take limit bytes))
-OpensFile limit old new name (Err (stop.Fault OpenFault)) = LeavesAll old new
-OpensFile limit old new name (Err (stop.Fault ReadFault)) = LeavesAll old new
-OpensFile limit old new name (Err (stop.Fault WriteFault)) = LeavesAll old new
-OpensFile limit old new name (Err stop.NoMemory) = LeavesAll old new
-OpensFile limit old new name (Err other) = ⊥
+OpensFile limit old new name (Err stops) = LeavesAll old new × (IsHostStop stops ⊎ MayHold (old.held name) (IsHeadStop limit stops))
 
 -- The output was created, and of its header this much was written.
 pub record CreatesWith (old new : World) (name : List ℕ) (id : ℕ) (text : List ℕ) : Type 0 where
@@ -93,10 +95,7 @@ CreatesPart old new name shape = LeavesAll old new ⊎ ((id : ℕ) × (count : �
 abbrev pub CreatesFile : World → World → List ℕ → Shape → Result Writing Stop → Type 0
 CreatesFile old new name shape (Ok writer) =
     CreatesWith old new name writer.id (header_text shape) × (writer ≡ record { id = writer.id; shape = shape; progress = progress.Started; bytes = length (header_text shape) })
-CreatesFile old new name shape (Err (stop.Fault OpenFault)) = CreatesPart old new name shape
-CreatesFile old new name shape (Err (stop.Fault WriteFault)) = CreatesPart old new name shape
-CreatesFile old new name shape (Err stop.NoMemory) = CreatesPart old new name shape
-CreatesFile old new name shape (Err other) = ⊥
+CreatesFile old new name shape (Err stops) = IsHostStop stops × CreatesPart old new name shape
 
 -- ---- making ready
 
@@ -107,26 +106,30 @@ pub record IsChainFor (path : List Step) (shape : Shape) (chain : ChainValue) : 
   pub next : chain.next ≡ pos 0
   pub fresh : chain.spent ≡ false
 
--- what stops the making ready, whatever follows the header: its fault, or out of memory
-abbrev pub StopsShape : List Step → Shape → Stop → Type 0
-StopsShape path shape stops = (stops ≡ stop.NoMemory) ⊎ ((limit : ℕ) (bytes : List ℕ) → ShapeGives limit path bytes shape (Err stops))
+-- what stops the making ready, whatever follows the header: its fault, which is no damage of frames, or out of memory
+pub record IsShapeStop (flow : Flow) (shape : Shape) (stops : Stop) : Type 0 where
+  pub gives : (limit : ℕ) (bytes : List ℕ) → ShapeGives limit flow bytes shape (Err stops)
+  pub no_damage : stop_status stops ≢ 9
+  pub no_host : ¬ IsHostStop stops
 
--- it is the fault of a file that the input may be
-abbrev pub StandsIn : ℕ → List Step → World → List ℕ → Fault → Type 0
-StandsIn limit path old input fault = MayHold (old.held input) (λ bytes. FileGives limit path bytes (reject fault))
+abbrev pub StopsShape : Flow → Shape → Stop → Type 0
+StopsShape flow shape stops = (stops ≡ stop.NoMemory) ⊎ IsShapeStop flow shape stops
 
--- The input was opened, its header read, and the filters made ready for its pictures.
-pub record PreparesWell (limit : ℕ) (path : List Step) (old new : World) (input : List ℕ) (reader : Reading) (chain : ChainValue) : Type 0 where
+-- it is what stops a file that the input may be, before its frames are read
+pub record StandsIn (limit : ℕ) (flow : Flow) (held : Option (List ℕ)) (stops : Stop) : Type 0 where
+  pub may : MayHold held (λ bytes. FileGives limit flow bytes (Err stops))
+  pub no_damage : stop_status stops ≢ 9
+
+-- The input was opened, its header read, and the filters made ready for its pictures, of which the output can hold what they give.
+pub record PreparesWell (limit : ℕ) (flow : Flow) (old new : World) (input : List ℕ) (reader : Reading) (chain : ChainValue) : Type 0 where
   pub opens : OpensWell limit old new input reader chain.shape
-  pub is_chain : IsChainFor path chain.shape chain
+  pub formats : (fs : List Format) × HasFormats flow chain.shape.format fs
+  pub is_chain : IsChainFor flow.path chain.shape chain
+  pub writable : IsWritable chain.end
 
-abbrev pub Prepares : ℕ → List Step → World → World → List ℕ → Result (Reading × ChainValue) Stop → Type 0
-Prepares limit path old new input (Ok both) = PreparesWell limit path old new input both.0 both.1
-Prepares limit path old new input (Err (stop.Fault OpenFault)) = LeavesAll old new
-Prepares limit path old new input (Err (stop.Fault ReadFault)) = LeavesAll old new
-Prepares limit path old new input (Err (stop.Fault WriteFault)) = LeavesAll old new
-Prepares limit path old new input (Err (stop.Fault fault)) = LeavesAll old new × StandsIn limit path old input fault
-Prepares limit path old new input (Err stop.NoMemory) = LeavesAll old new
+abbrev pub Prepares : ℕ → Flow → World → World → List ℕ → Result (Reading × ChainValue) Stop → Type 0
+Prepares limit flow old new input (Ok both) = PreparesWell limit flow old new input both.0 both.1
+Prepares limit flow old new input (Err stops) = LeavesAll old new × (IsHostStop stops ⊎ StandsIn limit flow (old.held input) stops)
 
 -- ---- the whole request
 
@@ -152,29 +155,30 @@ pub record HeadIsRead (old new : Inputs) (bytes : Option (List ℕ)) : Type 0 wh
   pub opened : IsOpened old new id
   pub line : List ℕ
   pub shape : Shape
-  pub header : IsHeader line shape
+  pub means : HeaderMeans line (Ok shape)
   pub count : ℕ
-  pub read : length line ≤ count
+  pub read : length line < count
   pub left : ForSome bytes (λ all. new.left id ≡ Some (drop count all))
 
 -- The whole answer was written, and the input read to its end.
 pub record Finishes (limit : ℕ) (request : Request) (old new : World) (counts : Counts) (bytes : List ℕ) : Type 0 where
   pub answer : Answer
-  pub gives : FileGives limit request.path bytes (Ok answer)
+  pub gives : FileGives limit request.flow bytes (Ok answer)
   pub leaves : Leaves old new request.output answer.out
   pub to_end : ForSome (old.held request.input) (λ _. AreReadToEnd old.inputs new.inputs)
   pub head : HeadIsRead old.inputs new.inputs (old.held request.input)
   pub counts_are : AreCounts counts answer
 
 -- a beginning of the open text of the frames that the filters give for leading frames of the input, within the limit
-pub record IsBegun (limit : ℕ) (path : List Step) (bytes put : List ℕ) : Type 0 where
+pub record IsBegun (limit : ℕ) (flow : Flow) (bytes put : List ℕ) : Type 0 where
   pub shape : Shape
   pub frames : List FrameValue
+  pub rest : List ℕ
   pub readies : List ReadyValue
   pub end : Shape
   pub count : ℕ
-  pub file : BeginsFile (take limit bytes) shape frames
-  pub ready : AreReady path shape readies end
+  pub file : BeginsFile limit bytes shape frames rest
+  pub ready : AreReady flow.path shape readies end
   pub put_is : put ≡ take count (open_text end (through readies frames))
 
 -- The input was opened and its header read, and then the output was created, which holds a beginning of the answer.
@@ -182,15 +186,32 @@ pub record Breaks (limit : ℕ) (request : Request) (old new : World) (bytes : L
   pub put : List ℕ
   pub leaves : Leaves old new request.output put
   pub head : HeadIsRead old.inputs new.inputs (old.held request.input)
-  pub begun : IsBegun limit request.path bytes put
+  pub begun : IsBegun limit request.flow bytes put
 
-abbrev pub Stops : ℕ → Request → World → World → Type 0
-Stops limit request old new = LeavesAll old new ⊎ MayHold (old.held request.input) (Breaks limit request old new)
+-- the text of what the filters give for all frames before the first damage
+pub record IsGood (limit : ℕ) (flow : Flow) (bytes out : List ℕ) : Type 0 where
+  pub shape : Shape
+  pub frames : List FrameValue
+  pub damage : NextError
+  pub readied : Readied
+  pub has_damage : HasDamage limit bytes shape frames damage
+  pub ready : AreReady flow.path shape readied.readies readied.end
+  pub out_is : out ≡ open_text readied.end (through readied.readies frames)
+
+-- The frames before a damage were all written.
+pub record Damages (limit : ℕ) (request : Request) (old new : World) (stops : Stop) (bytes : List ℕ) : Type 0 where
+  pub out : List ℕ
+  pub gives : FileGives limit request.flow bytes (Err stops)
+  pub is_good : IsGood limit request.flow bytes out
+  pub leaves : Leaves old new request.output out
+  pub head : HeadIsRead old.inputs new.inputs (old.held request.input)
+
+-- what stops a request: a failed call, or out of memory, at any time; what stops the file before its frames; or a damage
+pub data Ends (limit : ℕ) (request : Request) (old new : World) (stops : Stop) : Type 0 where
+  Refused : LeavesAll old new → IsHostStop stops ⊎ StandsIn limit request.flow (old.held request.input) stops → Ends limit request old new stops
+  Interrupted : IsHostStop stops → MayHold (old.held request.input) (Breaks limit request old new) → Ends limit request old new stops
+  Spoiled : MayHold (old.held request.input) (Damages limit request old new stops) → Ends limit request old new stops
 
 abbrev pub Commands : ℕ → Request → World → World → Result Counts Stop → Type 0
 Commands limit request old new (Ok counts) = MayHold (old.held request.input) (Finishes limit request old new counts)
-Commands limit request old new (Err (stop.Fault OpenFault)) = Stops limit request old new
-Commands limit request old new (Err (stop.Fault ReadFault)) = Stops limit request old new
-Commands limit request old new (Err (stop.Fault WriteFault)) = Stops limit request old new
-Commands limit request old new (Err (stop.Fault fault)) = Stops limit request old new × StandsIn limit request.path old request.input fault
-Commands limit request old new (Err stop.NoMemory) = Stops limit request old new
+Commands limit request old new (Err stops) = Ends limit request old new stops

@@ -11,9 +11,9 @@ use Rattle.av_faults.specs.Reports.{input_line, output_line}
 use Rattle.av_filter.specs.Outcomes.{HasOne}
 use Rattle.avgraph.specs.Requests.{Request, Asks}
 use Rattle.avgraph.specs.Stops.{CountsStop}
-use Rattle.avgraph.specs.Chains.{Step}
+use Rattle.avgraph.specs.Chains.{Flow}
 use Rattle.avgraph.specs.Answers.{Answer, FileGives, report_text}
-use Rattle.avgraph.specs.Commands.{MayHold, Commands, KeepsInputs, AreReadToEnd, HeadIsRead, IsBegun}
+use Rattle.avgraph.specs.Commands.{MayHold, Commands, KeepsInputs, AreReadToEnd, HeadIsRead, IsBegun, IsGood}
 use Rattle.avgraph.specs.declared.report.Counts.{Counts}
 use Rattle.avgraph.specs.declared.report.Done.{Done}
 
@@ -91,18 +91,19 @@ Holds old new output bytes = ForSome (old.content output) (λ _. new.content out
 -- The output holds the whole answer, nothing is left of the inputs that were opened, and the report was printed if it was asked for.
 pub record IsDone (limit : ℕ) (request : Request) (old new : World) (bytes : List ℕ) : Type 0 where
   pub answer : Answer
-  pub gives : FileGives limit request.path bytes (Ok answer)
+  pub gives : FileGives limit request.flow bytes (Ok answer)
   pub holds : Holds old.outputs new.outputs request.output answer.out
   pub to_end : ForSome (old.held request.input) (λ _. AreReadToEnd old.inputs new.inputs)
   pub report : IsTrue request.report → SaysText old new (report_text answer)
   pub silent : request.report ≡ false → SaysNothing old new
 
--- What stops the file is returned and printed.
+-- What stops the file is returned and printed. After a damage the output holds what the filters give for all frames before it.
 pub record IsNamed (limit : ℕ) (request : Request) (old new : World) (status : ℕ) (bytes : List ℕ) : Type 0 where
   pub stops : Stop
-  pub gives : FileGives limit request.path bytes (Err stops)
+  pub gives : FileGives limit request.flow bytes (Err stops)
   pub status_is : status ≡ stop_status stops
   pub said : SaysText old new (stop_line stops)
+  pub good : status ≡ 9 → (out : List ℕ) × IsGood limit request.flow bytes out × Holds old.outputs new.outputs request.output out
 
 -- the status of a file that comes to this, or out of memory
 abbrev pub HasStatus : {A : Type 0} → ℕ → Result A Stop → Type 0
@@ -112,7 +113,7 @@ HasStatus status (Err stops) = (status ≡ stop_status stops) ⊎ (status ≡ 14
 -- The status is that of what stops the words; if they ask for something, the file of the input comes to something, and the status is that of it. Out of
 -- memory may take the place of each.
 abbrev pub HasConclusion : ℕ → World → ℕ → Result Request Stop → Type 0
-HasConclusion limit old status (Ok request) = ForSome (old.held request.input) (λ bytes. (given : Result Answer Stop) × FileGives limit request.path bytes given × HasStatus status given)
+HasConclusion limit old status (Ok request) = ForSome (old.held request.input) (λ bytes. (given : Result Answer Stop) × FileGives limit request.flow bytes given × HasStatus status given)
 HasConclusion limit old status (Err stops) = (status ≡ stop_status stops) ⊎ (status ≡ 14)
 
 -- The words come to something, and the status is the one of that.
@@ -138,7 +139,7 @@ pub record IsQuiet (old new : Faults) : Type 0 where
 pub record IsCreated (limit : ℕ) (request : Request) (old new : World) (bytes : List ℕ) : Type 0 where
   pub head : HeadIsRead old.inputs new.inputs (old.held request.input)
   pub put : List ℕ
-  pub begun : IsBegun limit request.path bytes put
+  pub begun : IsBegun limit request.flow bytes put
   pub holds : Holds old.outputs new.outputs request.output put
   pub others : (other : List ℕ) → other ≢ request.output → new.outputs.content other ≡ old.outputs.content other
 
@@ -157,5 +158,5 @@ SaysStatus old new status = (stops : Stop) × (status ≡ stop_status stops) × 
 pub record CommandsHaveOneAnswer : Type 0 where
   pub words : (words : List (List ℕ)) → HasOne (Asks words)
   pub words_memory : (words : List (List ℕ)) → ¬ Asks words (Err stop.NoMemory)
-  pub files : (words : List (List ℕ)) (request : Request) (limit : ℕ) (bytes : List ℕ) → Asks words (Ok request) → HasOne (FileGives limit request.path bytes)
-  pub files_memory : (limit : ℕ) (path : List Step) (bytes : List ℕ) → ¬ FileGives limit path bytes (Err stop.NoMemory)
+  pub files : (words : List (List ℕ)) (request : Request) (limit : ℕ) (bytes : List ℕ) → Asks words (Ok request) → HasOne (FileGives limit request.flow bytes)
+  pub files_memory : (limit : ℕ) (flow : Flow) (bytes : List ℕ) → ¬ FileGives limit flow bytes (Err stop.NoMemory)

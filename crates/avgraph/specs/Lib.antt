@@ -5,5 +5,6 @@ pub mod Requests
 pub mod Jobs
 pub mod Running
 pub mod Answers
+pub mod Readying
 pub mod Commands
 pub mod Headline

@@ -31,7 +31,7 @@ use Rattle.av_faults.specs.declared.fault.LimitKind.TheVariants.{Filters}
 use Rattle.av_faults.specs.declared.fault.Stop.{Stop}
 use Rattle.av_faults.specs.declared.fault.Stop.TheVariants as stop
 use Rattle.avgraph.specs.Stops.{option_stop, plan_stop}
-use Rattle.avgraph.specs.Chains.{Step}
+use Rattle.avgraph.specs.Chains.{Step, Flow}
 use Rattle.avgraph.specs.Bounds.{most_filters}
 
 -- ---- what can run today
@@ -85,10 +85,10 @@ files_of command = map (λ (o : OutputWord). o.file) command.outputs
 
 -- ---- requests
 
--- what is read, the filters that its frames pass, one after another, what is written, and whether a report is asked for
+-- what is read, what its frames flow through, what is written, and whether a report is asked for
 pub record Request : Type 0 where
   pub input : List ℕ
-  pub path : List Step
+  pub flow : Flow
   pub output : List ℕ
   pub report : Bool
 
@@ -99,8 +99,10 @@ AreSteps calls filters path = AllZip (λ filter (step : Step). (step.number ≡ 
 -- the request of a plan with one input and one output, which is the path through the filters in their order
 pub record IsRequest (command : Command) (calls : List FilterCall) (plan : Plan) (names : List ℕ × List ℕ) (request : Request) : Type 0 where
   pub input : request.input ≡ names.0
+  pub calls_are : request.flow.calls ≡ calls
+  pub links_are : request.flow.links ≡ plan.links
   pub is_path : IsPath plan
-  pub steps : AreSteps calls plan.order request.path
+  pub steps : AreSteps calls plan.order request.flow.path
   pub output : request.output ≡ names.1
   pub report : request.report ≡ command.report
 

@@ -5,6 +5,10 @@ use Rattle.av_base.specs.declared.failure.Failure.TheVariants as failure
 use Rattle.av_text.specs.declared.fault.TextFault.{TextFault as ReadFaultOfText}
 use Rattle.av_host.specs.World.{Faults}
 use Rattle.av_host.specs.Calls.{RaisesOpenings, RaisesReads, RaisesWrites}
+use Rattle.av_frame.specs.declared.faults.HeadError.{HeadError}
+use Rattle.av_frame.specs.declared.faults.HeadError.TheVariants as head
+use Rattle.av_frame.specs.declared.faults.NextError.{NextError}
+use Rattle.av_frame.specs.declared.faults.NextError.TheVariants as next
 use Rattle.av_frame.specs.declared.refusals.OptionError.{OptionError}
 use Rattle.av_frame.specs.declared.refusals.OptionError.TheVariants as option
 use Rattle.av_frame.specs.declared.refusals.ConfigError.{ConfigError}
@@ -13,8 +17,8 @@ use Rattle.graph_plan.specs.declared.plan.PlanFault.{PlanFault}
 use Rattle.graph_plan.specs.declared.plan.PlanFault.TheVariants as plan
 use Rattle.graph_plan.specs.Refusals.{most_links}
 use Rattle.av_faults.specs.declared.fault.Fault.{Fault}
-use Rattle.av_faults.specs.declared.fault.LimitKind.TheVariants.{Links}
-use Rattle.av_faults.specs.declared.fault.Fault.TheVariants.{NotYet, TextFault, UnknownFilter, UnknownOption, TooManyValues, BadValue, MissingOption, PadCount, LabelTwice, UnknownInput, MediaMismatch, Cycle, OpenPad, Unmapped, NoSuchOutput, WrongKind, Limit, SizeMismatch, BadGeometry, TooLarge, TimeBaseRange, NoValue, OpenFault, ReadFault, WriteFault}
+use Rattle.av_faults.specs.declared.fault.LimitKind.TheVariants.{Links, Bytes}
+use Rattle.av_faults.specs.declared.fault.Fault.TheVariants.{NotYet, TextFault, UnknownFilter, UnknownOption, TooManyValues, BadValue, MissingOption, PadCount, LabelTwice, UnknownInput, MediaMismatch, Cycle, OpenPad, Unmapped, NoSuchOutput, WrongKind, Limit, NotMedia, BadHeader, BadColour, BadFrame, Truncated, SizeMismatch, BadGeometry, TooLarge, TimeBaseRange, NoValue, OpenFault, ReadFault, WriteFault}
 use Rattle.av_faults.specs.declared.fault.Stop.{Stop}
 use Rattle.av_faults.specs.declared.fault.Stop.TheVariants as stop
 
@@ -36,6 +40,31 @@ config_stop filter config.TimeBaseRange = stop.Fault (TimeBaseRange filter)
 config_stop filter (config.TooLarge found allowed) = stop.Fault (TooLarge filter found allowed)
 config_stop filter (config.NoValue k) = stop.Fault (NoValue filter k)
 config_stop filter config.NoMemory = stop.NoMemory
+
+-- a failed call of the host, or out of memory
+abbrev pub IsHostStop : Stop → Type 0
+IsHostStop (stop.Fault OpenFault) = Unit {0}
+IsHostStop (stop.Fault ReadFault) = Unit {0}
+IsHostStop (stop.Fault WriteFault) = Unit {0}
+IsHostStop stop.NoMemory = Unit {0}
+IsHostStop (stop.Fault other) = ⊥
+
+-- what stops it if the header of the input is refused
+abbrev pub head_stop : ℕ → HeadError → Stop
+head_stop limit head.NotMedia = stop.Fault (NotMedia 0)
+head_stop limit head.BadHeader = stop.Fault (BadHeader 0)
+head_stop limit head.BadColour = stop.Fault (BadColour 0)
+head_stop limit head.TooLong = stop.Fault (Limit Bytes 0 limit)
+head_stop limit head.Host = stop.Fault ReadFault
+head_stop limit head.NoMemory = stop.NoMemory
+
+-- what stops it if a frame can't be read
+abbrev pub next_stop : ℕ → NextError → Stop
+next_stop limit (next.BadFrame k) = stop.Fault (BadFrame 0 k)
+next_stop limit (next.Truncated k) = stop.Fault (Truncated 0 k)
+next_stop limit next.TooLong = stop.Fault (Limit Bytes 0 limit)
+next_stop limit next.Host = stop.Fault ReadFault
+next_stop limit next.NoMemory = stop.NoMemory
 
 -- the fault of the links or of the outputs
 abbrev pub plan_fault : PlanFault → Fault

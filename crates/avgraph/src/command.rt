@@ -1,19 +1,19 @@
 //! A job on its files.
 ghost use Rattle.std.specs.Prelude.{◌≡◌, ◌≤◌, IfOk};
-ghost use Rattle.y4m_io.specs.Sizes.{longest_line};
-ghost use Rattle.y4m_io.specs.HeaderTexts.{IsWritable};
-ghost use Rattle.avgraph.specs.Commands.{Commands, Prepares, OpensFile, CreatesFile, stop_of_opening, stop_of_head};
-ghost use Rattle.avgraph.specs.Stops.{CountsStop};
+ghost use Rattle.y4m_header.specs.HeaderLaws.{longest_line};
+ghost use Rattle.y4m_header.specs.HeaderTexts.{IsWritable};
+ghost use Rattle.avgraph.specs.Commands.{Commands, Prepares, OpensFile, CreatesFile, stop_of_opening};
+ghost use Rattle.avgraph.specs.Stops.{CountsStop, head_stop};
 ghost use Rattle.avgraph.specs.Requests.{Request};
 ghost use Rattle.avgraph.specs.Jobs.{IsJob};
 ghost use Rattle.avgraph.specs.Bounds.{greatest_input};
 
-use crate::LIMIT;
 use crate::chain::Chain;
 use crate::ready::ready_chain;
 use crate::report::Counts;
 use crate::request::Job;
 use crate::run::{pass_all, stopped_writing};
+use crate::{LIMIT, TOO_LONG};
 use av_base::{NoMemory, Shape};
 use av_faults::{Fault, Stop};
 use av_frame::{HeadError, Pools};
@@ -35,10 +35,13 @@ fn stopped_opening(error: HostError) -> Stop
 
 /// What stops the command if the header can't be read.
 fn stopped_heading(error: HeadError) -> Stop
-    ensures { result ≡ stop_of_head error }
+    ensures { result ≡ head_stop greatest_input error }
 {
     match error {
-        HeadError::BadHeader | HeadError::TooLong => Stop::Fault(Fault::NotYet),
+        HeadError::NotMedia => Stop::Fault(Fault::NotMedia { input: 0 }),
+        HeadError::BadHeader => Stop::Fault(Fault::BadHeader { input: 0 }),
+        HeadError::BadColour => Stop::Fault(Fault::BadColour { input: 0 }),
+        HeadError::TooLong => Stop::Fault(TOO_LONG),
         HeadError::Host => Stop::Fault(Fault::ReadFault),
         HeadError::NoMemory => Stop::NoMemory,
     }
@@ -87,14 +90,14 @@ fn create<H: Host>(alloc: Global, host: &mut H, name: &str, shape: Shape) -> Res
 /// Opens the input, reads its header, and makes the filters ready for its pictures.
 fn prepare<H: Host>(alloc: Global, host: &mut H, job: &Job) -> Result<(Reader, Chain), Stop>
     requires { (request : Request) × IsJob request job.now }
-    ensures prepares { (request : Request) → IsJob request job.now → Prepares greatest_input request.path (H.world host.old) (H.world host.new) request.input result }
+    ensures prepares { (request : Request) → IsJob request job.now → Prepares greatest_input request.flow (H.world host.old) (H.world host.new) request.input result }
     ensures faults { CountsStop result (H.world host.old).faults (H.world host.new).faults }
 {
     let (reader, shape) = match open(alloc, host, job.input.as_str()) {
         Ok(opened) => opened,
         Err(stop) => return Err(stop),
     };
-    match ready_chain(alloc, job.kinds.as_slice(), job.order.as_slice(), shape) {
+    match ready_chain(alloc, job, shape) {
         Ok(chain) => Ok((reader, chain)),
         Err(stop) => Err(stop),
     }

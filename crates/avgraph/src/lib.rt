@@ -17,3 +17,10 @@ pub use y4m_io::{Progress, Stage, reader, writer};
 
 /// The greatest number of bytes of an input (`greatest_input`).
 pub const LIMIT: u64 = 1 << 40;
+
+/// An input has more bytes than the limit.
+const TOO_LONG: Fault = Fault::Limit {
+    kind: LimitKind::Bytes,
+    which: 0,
+    allowed: LIMIT,
+};

@@ -1,19 +1,25 @@
 //! The filters of a path, made ready for the pictures of an input.
 ghost use Rattle.std.specs.Prelude.{◌≡◌, ◌⊎◌, List, [], ◌∷◌, false, IsTrue, IfOk, IfErr};
-ghost use Rattle.av_base.specs.Shapes.{IsPictureShape};
+ghost use Rattle.av_base.specs.declared.formats.Format.{Format};
+ghost use Rattle.av_base.specs.Shapes.{IsPictureShape, IsPictured};
 ghost use Rattle.av_frame.specs.declared.refusals.ConfigError.TheVariants as config;
 ghost use Rattle.node_core.specs.Shaping.{Takes, IsReady, IsConfigFault};
-ghost use Rattle.avgraph.specs.Chains.{Step, AreReady};
-ghost use Rattle.avgraph.specs.Answers.{AreTaking, IsUnready};
-ghost use Rattle.avgraph.specs.Jobs.{AreOfPath};
+ghost use Rattle.y4m_header.specs.HeaderTexts.{IsWritable};
+ghost use Rattle.avgraph.specs.Chains.{Step, Flow, AreReady};
+ghost use Rattle.avgraph.specs.Answers.{HasFormats, HasRate, IsUnready, y4m_formats};
+ghost use Rattle.avgraph.specs.Jobs.{AreOfPath, IsFlow};
 ghost use Rattle.avgraph.specs.Commands.{IsChainFor, StopsShape};
+ghost use Rattle.avgraph.specs.Readying.{AreTaking, LacksStop};
 ghost use Rattle.avgraph.specs.Stops.{config_stop};
 
 use crate::chain::Chain;
-use av_base::{Format, List, Shape};
+use crate::request::Job;
+use av_base::{Format, FormatSet, List, PixelFormat, Props, Shape};
 use av_faults::{Fault, Stop};
 use av_frame::ConfigError;
+use graph_formats::FormatError;
 use node_core::{Kind, Ready};
+use plan_formats::choose_formats;
 use std::alloc::Global;
 
 /// What stops the command if a filter can't be made ready.
@@ -38,18 +44,38 @@ fn stopped_config(filter: u32, error: ConfigError) -> Stop
     })
 }
 
-/// Whether every filter takes pictures of a format.
-fn all_take(kinds: &[Kind], order: &[u32], format: Format) -> bool
-    requires { (path : List Step) × AreOfPath kinds.now order.now path }
-    ensures taking { (path : List Step) → AreOfPath kinds.now order.now path → IsTrue result → AreTaking path format }
-    ensures untaken { (path : List Step) → AreOfPath kinds.now order.now path → result ≡ false → ¬ AreTaking path format }
+/// The formats that an output file can hold.
+fn y4m_formats() -> FormatSet
+    ensures { result ≡ y4m_formats }
 {
-    for filter in order {
-        if !kinds[*filter as usize].takes(format) {
-            return false;
+    FormatSet::empty()
+        .with(Format::Video(PixelFormat::Gray))
+        .with(Format::Video(PixelFormat::Yuv420p))
+        .with(Format::Video(PixelFormat::Yuv422p))
+        .with(Format::Video(PixelFormat::Yuv444p))
+        .with(Format::Video(PixelFormat::Yuva444p))
+}
+
+/// The formats of the links, where the input's pictures have a format.
+fn choose(alloc: Global, job: &Job, format: Format) -> Result<List<Format>, Stop>
+    requires { (flow : Flow) × IsFlow job.now.kinds.items job.now.order job.now.links flow }
+    ensures formats { (flow : Flow) → IsFlow job.now.kinds.items job.now.order job.now.links flow → IfOk result (HasFormats flow format) }
+    ensures stop { (flow : Flow) → IsFlow job.now.kinds.items job.now.order job.now.links flow → IfErr result (LacksStop flow format) }
+{
+    let formats = choose_formats(
+        alloc,
+        job.links.as_slice(),
+        job.kinds.as_slice(),
+        &[format],
+        &[y4m_formats()],
+    );
+    match formats {
+        Ok(formats) => Ok(formats),
+        Err(FormatError::NoCommonFormat { link }) => {
+            Err(Stop::Fault(Fault::NoCommonFormat { link }))
         }
+        Err(FormatError::NoMemory) => Err(Stop::NoMemory),
     }
-    true
 }
 
 /// A filter, made ready for pictures of a shape.
@@ -96,26 +122,41 @@ fn make_all_ready(
     Ok(ReadiedPath { readies, end })
 }
 
-/// The chain of the filters of a path, ready for pictures of a shape. `order` has the numbers of the path's filters.
+/// Whether a file can state the rate of pictures of a shape.
+fn has_rate(shape: Shape) -> bool
+    ensures known { IsTrue result → HasRate shape.props }
+    ensures unknown { result ≡ false → ¬ HasRate shape.props }
+{
+    match shape.props {
+        Props::Video(props) => props.rate.num > 0,
+        Props::Audio(_) => false,
+    }
+}
+
+/// The chain of the filters of a job, ready for pictures of a shape.
 ///
 /// # Errors
-/// `NoCommonFormat` if a filter doesn't take pictures of the shape's format; else the fault of the first filter
-/// that can't be made ready. Out of memory.
-pub(crate) fn ready_chain(
-    alloc: Global,
-    kinds: &[Kind],
-    order: &[u32],
-    shape: Shape,
-) -> Result<Chain, Stop>
-    requires picture { IsPictureShape shape }
-    requires path { (path : List Step) × AreOfPath kinds.now order.now path }
-    ensures ready { (path : List Step) → AreOfPath kinds.now order.now path → IfOk result (IsChainFor path shape) }
-    ensures stop { (path : List Step) → AreOfPath kinds.now order.now path → IfErr result (StopsShape path shape) }
+/// `NoCommonFormat` if the links can't be given formats; else the fault of the first filter that can't be made
+/// ready; else `NoRate` if the rate of what the last one gives is unknown. Out of memory.
+pub(crate) fn ready_chain(alloc: Global, job: &Job, shape: Shape) -> Result<Chain, Stop>
+    requires picture { IsPictured shape }
+    requires flow { (flow : Flow) × IsFlow job.now.kinds.items job.now.order job.now.links flow }
+    ensures formats { (flow : Flow) → IsFlow job.now.kinds.items job.now.order job.now.links flow → IfOk result (λ chain. (fs : List Format) × HasFormats flow shape.format fs) }
+    ensures ready { (flow : Flow) → IsFlow job.now.kinds.items job.now.order job.now.links flow → IfOk result (IsChainFor flow.path shape) }
+    ensures writable { IfOk result (λ chain. IsWritable chain.end) }
+    ensures stop { (flow : Flow) → IsFlow job.now.kinds.items job.now.order job.now.links flow → IfErr result (StopsShape flow shape) }
 {
-    if !all_take(kinds, order, shape.format) {
-        return Err(Stop::Fault(Fault::NoCommonFormat { link: 0 }));
+    let _formats = match choose(alloc, job, shape.format) {
+        Ok(formats) => formats,
+        Err(stop) => return Err(stop),
+    };
+    let readied = match make_all_ready(alloc, job.kinds.as_slice(), job.order.as_slice(), shape) {
+        Ok(readied) => readied,
+        Err(stop) => return Err(stop),
+    };
+    if !has_rate(readied.end) {
+        return Err(Stop::Fault(Fault::NoRate { output: 0 }));
     }
-    let readied = make_all_ready(alloc, kinds, order, shape)?;
     let chain = Chain::new(alloc, readied.readies, shape, readied.end)?;
     Ok(chain)
 }

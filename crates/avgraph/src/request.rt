@@ -4,7 +4,7 @@ ghost use Rattle.std.specs.List.{AllZip, AllByRecursion};
 ghost use Rattle.graph_plan.specs.declared.plan.OutputFile.{OutputFile};
 ghost use Rattle.graph_plan.specs.declared.plan.DraftPlan.{DraftPlan};
 ghost use Rattle.graph_plan.specs.declared.plan.PlanFault.{PlanFault};
-ghost use Rattle.graph_plan.specs.Refusals.{IsLinked};
+ghost use Rattle.graph_plan.specs.Refusals.{IsLinked, most_links};
 ghost use Rattle.graph_plan.specs.Paths.{IsPath};
 ghost use Rattle.graph_text.specs.declared.graph.FilterCall.{FilterCall};
 ghost use Rattle.node_core.specs.Kinds.{IsKind};
@@ -23,7 +23,7 @@ use av_frame::OptionError;
 use av_text::TextError;
 use av_words::{Command, InputWord, OutputWord, read_words};
 use graph_plan::{
-    DraftPlan, Ending, MOST_LINKS, OutputFile, Pads, Plan, PlanError, PlanFault, link,
+    DraftPlan, Edge, Ending, MOST_LINKS, OutputFile, Pads, Plan, PlanError, PlanFault, link,
 };
 use graph_text::{FilterCall, GraphText, parse};
 use node_core::Kind;
@@ -41,6 +41,8 @@ pub(crate) struct Job {
     pub(crate) kinds: Vec<Kind>,
     /// The numbers of the filters that the input's frames pass, one after another.
     pub(crate) order: List<u32>,
+    /// The links of the graph.
+    pub(crate) links: List<Edge>,
     /// The name of the output.
     pub(crate) output: Text,
     /// Whether a report is asked for.
@@ -249,7 +251,9 @@ fn ask_plan(
     plan: Plan,
 ) -> Result<Job, Stop>
     requires today { RunsToday command.now }
+    requires calls { length calls.now ≤ most_filters }
     requires kinds { AllZip IsKind calls.now kinds.items }
+    requires links { length plan.links ≤ most_links }
     requires path { (names : List ℕ × List ℕ) → AreNames command.now names → IsPath plan }
     requires steps { (path : List Step) × AreSteps calls.now plan.order path }
     ensures { Asked (AsksPlan command.now calls.now plan) result }
@@ -261,6 +265,7 @@ fn ask_plan(
         input: Text::new(String::from_str(alloc, input)?),
         kinds,
         order: plan.order,
+        links: plan.links,
         output: Text::new(String::from_str(alloc, output)?),
         report: command.report,
     })

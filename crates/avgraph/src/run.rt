@@ -1,12 +1,13 @@
 //! The loop from an input to an output.
 ghost use Rattle.std.specs.Prelude.{◌≡◌, ◌≤◌, pos, false, IsTrue, IsSome};
-ghost use Rattle.avgraph.specs.Running.{Runs, stop_of_next, stop_of_write};
-ghost use Rattle.avgraph.specs.Stops.{CountsStop};
+ghost use Rattle.avgraph.specs.Running.{Runs, stop_of_write};
+ghost use Rattle.avgraph.specs.Stops.{CountsStop, next_stop};
 ghost use Rattle.avgraph.specs.Bounds.{greatest_input};
-ghost use Rattle.y4m_io.specs.Sizes.{longest_line};
+ghost use Rattle.y4m_header.specs.HeaderLaws.{longest_line};
 ghost use Rattle.y4m_io.specs.declared.y4m_state.Stage.{Stage};
 ghost use Rattle.y4m_io.specs.declared.y4m_state.Progress.{Progress};
 
+use crate::TOO_LONG;
 use crate::chain::Chain;
 use crate::report::Counts;
 use av_base::NoMemory;
@@ -20,12 +21,12 @@ use y4m_io::writer::Writer;
 
 /// What stops the command if a frame can't be read.
 pub(crate) fn stopped_reading(error: NextError) -> Stop
-    ensures { result ≡ stop_of_next error }
+    ensures { result ≡ next_stop greatest_input error }
 {
     match error {
-        NextError::BadFrame { .. } | NextError::Truncated { .. } | NextError::TooLong => {
-            Stop::Fault(Fault::NotYet)
-        }
+        NextError::BadFrame { frame } => Stop::Fault(Fault::BadFrame { input: 0, frame }),
+        NextError::Truncated { place } => Stop::Fault(Fault::Truncated { input: 0, place }),
+        NextError::TooLong => Stop::Fault(TOO_LONG),
         NextError::Host => Stop::Fault(Fault::ReadFault),
         NextError::NoMemory => Stop::NoMemory,
     }
@@ -62,7 +63,7 @@ pub(crate) fn pass_all<R: Threads + Sync, H: Host>(
     requires end { writer.old.shape ≡ chain.old.end }
     requires next { chain.old.next ≡ pos 0 }
     requires fresh { chain.old.spent ≡ false }
-    ensures runs { Runs chain.old.shape chain.old.readies (H.world host.old) (H.world host.new) reader.old writer.old result }
+    ensures runs { Runs greatest_input chain.old.shape chain.old.readies (H.world host.old) (H.world host.new) reader.old writer.old result }
     ensures faults { CountsStop result (H.world host.old).faults (H.world host.new).faults }
 {
     loop {

@@ -1,6 +1,6 @@
 //! The top call: the command from its words to its status.
 ghost use Rattle.std.specs.Prelude.{◌≡◌, ◌≢◌, ◌⊎◌, map, Ok, Err, string_bytes};
-ghost use Rattle.av_faults.specs.Faults.{IsOfWords, IsOfFile};
+ghost use Rattle.av_faults.specs.Faults.{IsOfWords, IsOfFile, IsOfLimit};
 ghost use Rattle.av_faults.specs.declared.fault.Stop.{Stop};
 ghost use Rattle.avgraph.specs.Bounds.{greatest_input};
 ghost use Rattle.avgraph.specs.Requests.{Request, Asks};
@@ -54,9 +54,10 @@ fn act<R: Threads + Sync, H: Host>(rt: &R, alloc: Global, words: &[String], host
 
 /// Runs the command that the words name, and returns the program's status: 0 if all was done, 2 if the words have a fault,
 /// 3 if the graph text has no reading, 4 if a filter or its arguments are rejected, 5 if the filters and the outputs can't be
-/// linked, 7 if the filters have no common format, 8 if a filter can't be made ready, 10 if a limit is passed, 11 if an input
-/// was not opened or an output not created, 12 and 13 if a read or a write failed, 14 if out of memory, and 15 if the words,
-/// the graph or the input are outside of what the command can do today. After any status but 0 one line was printed. At
+/// linked, 6 if the input's header is rejected, 7 if filters and files have no common format, 8 if a filter can't be made
+/// ready or the output's rate is unknown, 9 if the input is damaged, 10 if a limit is passed, 11 if an input was not opened or
+/// an output not created, 12 and 13 if a read or a write failed, 14 if out of memory, and 15 if the words or the graph are
+/// outside of what the command can do today. After any status but 0 one line was printed. At
 /// status 0 the report was printed, if it was asked for.
 pub fn avgraph<R: Threads + Sync, H: Host, G: Gate>(
     rt: &R,
@@ -67,10 +68,13 @@ pub fn avgraph<R: Threads + Sync, H: Host, G: Gate>(
 ) -> u8
     // What stops the words before any file is opened is returned, or out of memory, and the host is asked only to print.
     ensures refused { (stops : Stop) → Asks (map string_bytes words.now) (Err stops) → Refuses (H.world host.old) (H.world host.new) stops result }
-    // A status of 2, 3, 4, 5 or 10 is that of what stops the words.
+    // A status of 2, 3, 4, 5 or 15 is that of what stops the words.
     ensures stands { IsOfWords result → (stops : Stop) × Asks (map string_bytes words.now) (Err stops) × StopsAt (H.world host.old) (H.world host.new) stops result }
-    // A status of 7, 8 or 15 is that of what stops the words, or the file of the input.
-    ensures names { IsOfFile result → ((stops : Stop) × Asks (map string_bytes words.now) (Err stops) × StopsAt (H.world host.old) (H.world host.new) stops result)
+    // A status of 6, 7, 8 or 9 is that of the file of the input. After a damage the output holds all that came before it.
+    ensures names { IsOfFile result → (request : Request) × Asks (map string_bytes words.now) (Ok request)
+        × MayHold ((H.world host.old).held request.input) (IsNamed greatest_input request (H.world host.old) (H.world host.new) result) }
+    // A status of 10 is that of a limit of the words, or of the file's bytes.
+    ensures limits { IsOfLimit result → ((stops : Stop) × Asks (map string_bytes words.now) (Err stops) × StopsAt (H.world host.old) (H.world host.new) stops result)
         ⊎ ((request : Request) × Asks (map string_bytes words.now) (Ok request)
         × MayHold ((H.world host.old).held request.input) (IsNamed greatest_input request (H.world host.old) (H.world host.new) result)) }
 

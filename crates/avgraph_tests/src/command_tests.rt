@@ -263,8 +263,14 @@ fn a_report_tells_the_frames_and_the_bytes(rt: HostRuntime) -> Result<(), Fail> 
         );
         let mut host = host_with(&rt, rt.alloc(), &FILE[..26]);
         assert_eq!(rt;
-            run(&rt, rt.alloc(), &words, &mut host, "avgraph: NotYet\n"),
-            (15, true)
+            run(
+                &rt,
+                rt.alloc(),
+                &words,
+                &mut host,
+                "avgraph: BadHeader input=0\n"
+            ),
+            (6, true)
         );
     }
     Ok(())

@@ -18,12 +18,14 @@ pub(crate) const FLIPPED: &[u8] =
 pub(crate) const KEPT: &[u8] =
     b"YUV4MPEG2 W4 H2 F25:1 Ip A0:0 C420jpeg\nFRAME\n\x01\x02\x03\x04\x05\x06\x07\x08\x09\x0a\x0b\x0c";
 
-/// The lengths of the header lines that are read and written, and of each frame.
+/// The lengths of the header lines that are read and written.
 pub(crate) const HEADER: usize = 27;
 
 pub(crate) const WRITTEN_HEADER: usize = 39;
 
-pub(crate) const FRAME: usize = 18;
+/// A gray picture of 4x2 samples.
+pub(crate) const GRAY: &[u8] =
+    b"YUV4MPEG2 W4 H2 F25:1 Cmono\nFRAME\n\x01\x02\x03\x04\x05\x06\x07\x08";
 
 /// The words as texts of their own.
 pub(crate) fn words(alloc: Global, line: &[&str]) -> Result<Vec<String>, AllocError> {

@@ -9,6 +9,8 @@ mod command_tests;
 #[cfg(test)]
 mod commands;
 #[cfg(test)]
+mod file_tests;
+#[cfg(test)]
 mod host_tests;
 #[cfg(test)]
 mod run_tests;

@@ -1,6 +1,6 @@
 //! Runs from files to files, by hand-made files.
 
-use crate::commands::{FILE, FLIPPED, FRAME, HEADER, WRITTEN_HEADER, host_with, run, with_text};
+use crate::commands::{FILE, FLIPPED, HEADER, WRITTEN_HEADER, host_with, run, with_text};
 use av_host::MemoryHost;
 use avgraph::{OpenGate, avgraph};
 use std::test::Fail;
@@ -42,53 +42,27 @@ fn odd_sizes_keep_their_rows(rt: HostRuntime) -> Result<(), Fail> {
 #[test]
 fn a_file_that_is_cut_leaves_its_whole_frames(rt: HostRuntime) -> Result<(), Fail> {
     let words = with_text(rt.alloc(), "hflip")?;
-    for most in [1, 2, 7, 65536] {
+    for most in [1, 7, 65536] {
         for cut in 0..=FILE.len() {
             let mut host = host_with(&rt, rt.alloc(), &FILE[..cut]);
             host.give_at_most(most);
-            let status = avgraph(&rt, rt.alloc(), &words, &mut host, &OpenGate);
-            let whole = cut == HEADER || cut == HEADER + FRAME;
-            assert_eq!(rt; status, if whole { 0 } else { 15 });
-            let output = match cut {
-                0..HEADER => None,
-                HEADER..45 => Some(&FLIPPED[..WRITTEN_HEADER]),
-                _ => Some(FLIPPED),
+            let (status, said, output) = match cut {
+                0..9 => (6, "avgraph: NotMedia input=0\n", None),
+                9..HEADER => (6, "avgraph: BadHeader input=0\n", None),
+                HEADER => (0, "", Some(&FLIPPED[..WRITTEN_HEADER])),
+                45 => (0, "", Some(FLIPPED)),
+                _ => (
+                    9,
+                    "avgraph: Truncated input=0 place=0\n",
+                    Some(&FLIPPED[..WRITTEN_HEADER]),
+                ),
             };
+            assert_eq!(rt;
+                run(&rt, rt.alloc(), &words, &mut host, said),
+                (status, true)
+            );
             assert_eq!(rt; host.output("b.y4m"), output);
         }
-    }
-    Ok(())
-}
-
-#[test]
-fn files_outside_the_form_are_refused_at_their_place(rt: HostRuntime) -> Result<(), Fail> {
-    let words = with_text(rt.alloc(), "hflip")?;
-    for (input, output) in [
-        (b"YUV4MPEG2 W04 H2 F25:1 C420\n".as_slice(), None),
-        (b"YUV4MPEG2  W4 H2 F25:1 C420\n".as_slice(), None),
-        (b"YUV4MPEG2 W0 H2 F25:1 C420\n".as_slice(), None),
-        (b"YUV4MPEG2 W4 H2 F25:0 C420\n".as_slice(), None),
-        (b"YUV4MPEG2 W8193 H2 F25:1 C420\n".as_slice(), None),
-        (b"YUV4MPEG2 W99999999999 H2 F25:1 C420\n".as_slice(), None),
-        (b"YUV4MPEG2 W4 H2 F25:1 C420jpeg\n".as_slice(), None),
-        (b"YUV4MPEG2 W4 H2 F25:1 C420\r\n".as_slice(), None),
-        (
-            b"YUV4MPEG2 W4 H2 F25:1 C420\nYUV4MPEG2 W4 H2 F25:1 C420\n".as_slice(),
-            Some(b"YUV4MPEG2 W4 H2 F25:1 Ip A0:0 C420jpeg\n".as_slice()),
-        ),
-        (
-            b"YUV4MPEG2 W4 H2 F25:1 C420\nFRAME \nabcdefghiklm".as_slice(),
-            Some(b"YUV4MPEG2 W4 H2 F25:1 Ip A0:0 C420jpeg\n".as_slice()),
-        ),
-        (
-            b"YUV4MPEG2 W4 H2 F25:1 C420\nFRAME\nFRAME\nabcdefghiklm".as_slice(),
-            Some(b"YUV4MPEG2 W4 H2 F25:1 Ip A0:0 C420jpeg\nFRAME\nMARFba\nEdcfe".as_slice()),
-        ),
-    ] {
-        let mut host = host_with(&rt, rt.alloc(), input);
-        assert_eq!(rt; avgraph(&rt, rt.alloc(), &words, &mut host, &OpenGate), 15);
-        assert_eq!(rt; host.output("b.y4m"), output);
-        assert_eq!(rt; host.said(), b"avgraph: NotYet\n".as_slice());
     }
     Ok(())
 }

@@ -11,6 +11,8 @@ mod argument_tests;
 #[cfg(test)]
 mod calls;
 #[cfg(test)]
+mod format_tests;
+#[cfg(test)]
 mod lookup_tests;
 #[cfg(test)]
 mod picture_tests;

@@ -1,8 +1,8 @@
 mod DemandLemmas
 mod WalkLemmas
 mod PartLemmas
-mod LawLemmas
+pub mod LawLemmas
 mod SearchLemmas
-mod TotalLemmas
+pub mod TotalLemmas
 mod ChoiceLemmas
 mod ListingLemmas

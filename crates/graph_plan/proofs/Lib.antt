@@ -22,3 +22,4 @@ mod Decisions
 mod FaultDecisions
 mod CycleDecisions
 pub mod OneOfBoth
+pub mod FewLinks

@@ -10,6 +10,7 @@ use Rattle.node_core.specs.Kinds.{later_names, Means, IsKind, IsKindFault}
 use Rattle.node_core.specs.Laws.{FollowsKind, CallsHaveOneMeaning, FiltersHaveOneOutcome}
 use Rattle.node_core.specs.declared.kind.Kind.{Kind}
 use Rattle.node_core.specs.declared.name.Later.{Later}
+use Rattle.node_core.proofs.WishLemmas.{same_formats}
 
 both : {b : Bool} → b ≡ true → b ≡ false → ⊥
 both e f = cc
@@ -35,7 +36,8 @@ call_some call = by (frame_filters.contains call.name) refl
 one_kind : (call : FilterCall) (a b : Kind) → IsKind call a → IsKind call b → FollowsKind a b
 one_kind call a b (Means.Filter k e h) (Means.Filter l f g) =
     let follows = (frame_filter_laws.one_reading call.name call.args e).follows a.options b.options h g in
-    record { takes = follows.takes; settles = follows.settles }
+    let back = (frame_filter_laws.one_reading call.name call.args e).follows b.options a.options g h in
+    record { formats = same_formats a b follows.takes back.takes; takes = follows.takes; settles = follows.settles }
 
 apart : (call : FilterCall) (a : Kind) (e : OptionError) → IsKind call a → ¬ IsKindFault call e
 apart call a e (Means.Filter k p h) (Means.Refused f q g) = (frame_filter_laws.one_reading call.name call.args p).not_both a.options e h g

@@ -12,11 +12,13 @@ use Rattle.av_frame.specs.declared.refusals.ConfigError.{ConfigError}
 use Rattle.node_core.specs.Filters.{frame_filters}
 use Rattle.node_core.specs.Kinds.{Means, IsKind, IsKindFault}
 use Rattle.node_core.specs.Shaping.{Takes}
+use Rattle.node_core.specs.Wishing.{formats_of}
 use Rattle.node_core.specs.declared.kind.Kind.{Kind}
 
--- what the one filter takes and settles, the other does too. (Two sets of formats may differ in bits that mean no
--- format.)
+-- what the one filter takes and settles, the other does too, and it asks the same of formats. (Two sets of formats may
+-- differ in bits that mean no format.)
 pub record FollowsKind (a b : Kind) : Type 0 where
+  pub formats : formats_of b ≡ formats_of a
   pub takes : (f : Format) → Takes a f → Takes b f
   pub settles : (s : Shape) (r : Result frame_filters.Settings ConfigError) → frame_filters.making.settles a.options s r → frame_filters.making.settles b.options s r
 

@@ -3,3 +3,4 @@ pub mod FilterLaws
 pub mod Kinds
 pub mod Shaping
 pub mod Laws
+pub mod Wishing

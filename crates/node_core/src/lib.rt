@@ -7,8 +7,10 @@ mod kind;
 pub mod law;
 mod name;
 mod ready;
+mod wishes;
 
 pub use filters::{FrameFilters, FrameOptions};
 pub use instance::{Instance, made_frames_are_lawful};
 pub use kind::Kind;
 pub use ready::Ready;
+pub use wishes::{PadLinks, Wishes};

@@ -1,16 +1,18 @@
 -- Frames as text: how long they are, and which texts can go on to be one.
-use Rattle.std.proofs.Common.{◌≡◌, ◌≢◌, ℕ, zero, suc, ◌+◌, ◌-◌, ◌*◌, ◌<◌, ◌≤◌, List, [], ◌∷◌, ◌++◌, length, take, drop, get_or, map, sum, replicate, ap, sym, ◌∙◌, subst, arith, refl, append_assoc, length-append}
+use Rattle.std.proofs.Common.{◌≡◌, ℕ, zero, suc, ◌+◌, ◌-◌, ◌*◌, ◌<◌, ◌≤◌, List, [], ◌∷◌, ◌++◌, length, take, drop, get_or, map, sum, replicate, ap, sym, ◌∙◌, subst, arith, refl, append_assoc, length-append}
 use Rattle.std.specs.List.{concat, range_with_len}
-use Rattle.std.proofs.lemmas.List.{append-nil, map_push, take_all, take_at, take-take, take-append-le, take-append-drop, length-take-le, length-take, length-drop, length-replicate}
+use Rattle.std.proofs.lemmas.List.{append-nil, map_push, take_all, append_cancel_left, length-take-le, length-drop, length-replicate}
 use Rattle.std.proofs.lemmas.List.FromFn.{get_or-map-range_with_len, length-map-range_with_len, map-range_with_len_more, sum_by-map-range_with_len_more}
 use Rattle.std.proofs.Math.Nat.{mul-zero, mul-suc, mul-le-mul_left, add-zero, add-suc}
 use Rattle.std.proofs.Math.Numerals.{add-one}
-use Rattle.std.proofs.Math.Seq.{take-add, take-suc}
+use Rattle.std.proofs.Math.Seq.{take-add, take-suc, take-append-add}
 use Rattle.av_base.specs.declared.shapes.Shape.{Shape}
 use Rattle.av_base.specs.Shapes.{planes_of, columns_of, rows_of, bytes_of}
 use Rattle.av_frame.specs.Rasters.{Raster, IsRaster, blank_raster}
 use Rattle.av_frame.specs.Frames.{plane_at, ArePlanes}
-use Rattle.y4m_io.specs.FrameTexts.{frame_mark, picture_text, frame_text, frame_size, BeginsFrame, CanBeginFrame, IsBadFrame}
+use Rattle.y4m_io.specs.FrameTexts.{frame_mark, picture_text, frame_text, frame_size, IsMark, BeginsFrame, CanBeginFrame, IsBadFrame}
+use Rattle.y4m_io.specs.Pieces.{BeginsMark, CanBeginMark, IsMarkPart}
+use Rattle.y4m_io.proofs.MarkLemmas.{mark_unique, part_no_mark}
 use Rattle.y4m_io.proofs.RowLemmas.{concat-push}
 
 -- ---- lengths
@@ -168,50 +170,64 @@ picture_of shape body long = (
   picture_text-cut shape body (planes_of shape) ∙ take_all (area_before shape (planes_of shape)) body (let all = area_before_all shape in omega arith),
 )
 
--- a text that goes on to be the first line and a picture's bytes
-can_begin : (shape : Shape) (text more body : List ℕ) → length body ≡ bytes_of shape → text ++ more ≡ frame_mark ++ body → CanBeginFrame shape text
-can_begin shape text more body long e =
+-- a text that goes on to be a line and a picture's bytes
+can_begin : (shape : Shape) (text more line body : List ℕ) → IsMark line → length body ≡ bytes_of shape → text ++ more ≡ line ++ body → CanBeginFrame shape text
+can_begin shape text more line body mark long e =
     let picture = picture_of shape body long in (
       more,
       record {
+        mark = line;
         planes = picture.0;
         rest = [];
+        is_mark = mark;
         are_planes = picture.1;
-        text_is = e ∙ (ap (λ zs. frame_mark ++ zs) (sym picture.2) ∙ sym (append-nil (frame_text picture.0)));
+        text_is = e ∙ ap (λ (zs : List ℕ). line ++ zs) (sym picture.2 ∙ sym (append-nil (picture_text picture.0)));
       },
     )
 
--- a part of the first line
-pub can_begin-mark : (shape : Shape) (n : ℕ) → CanBeginFrame shape (take n frame_mark)
-can_begin-mark shape n =
+-- a part of the line
+pub can_begin-part : (shape : Shape) (front : List ℕ) → IsMarkPart front → CanBeginFrame shape front
+can_begin-part shape front part =
     let body : List ℕ = replicate (bytes_of shape) 0 in
-    can_begin shape (take n frame_mark) (drop n frame_mark ++ body) body (length-replicate {A = ℕ} (bytes_of shape) 0)
-    (sym (append_assoc (take n frame_mark) (drop n frame_mark) body) ∙ ap (λ zs. zs ++ body) (take-append-drop n frame_mark))
+    can_begin shape front (part.more ++ body) (front ++ part.more) body part.is_mark (length-replicate {A = ℕ} (bytes_of shape) 0) (sym (append_assoc front part.more body))
 
--- the first line and a part of the picture
-pub can_begin-body : (shape : Shape) (got : List ℕ) → length got ≤ bytes_of shape → CanBeginFrame shape (frame_mark ++ got)
-can_begin-body shape got room =
+-- the line and a part of the picture
+pub can_begin-line : (shape : Shape) (line got : List ℕ) → IsMark line → length got ≤ bytes_of shape → CanBeginFrame shape (line ++ got)
+can_begin-line shape line got mark room =
     let more : List ℕ = replicate (bytes_of shape - length got) 0 in
-    can_begin shape (frame_mark ++ got) more (got ++ more)
+    can_begin shape (line ++ got) more line (got ++ more) mark
     (let zeros = length-replicate {A = ℕ} (bytes_of shape - length got) 0 in let both = length-append got more in omega arith)
-    (append_assoc frame_mark got more)
+    (append_assoc line got more)
 
--- a text that is shorter than a frame
-pub no_frame : (shape : Shape) (text : List ℕ) → length text < frame_size shape → ¬ BeginsFrame shape text
-no_frame shape text short = λ b.
-    let frame = length-frame shape b.planes b.are_planes in
-    let whole = ap length b.text_is ∙ length-append (frame_text b.planes) b.rest in
+-- a frame begins with its line
+pub frame_mark_of : (shape : Shape) (text : List ℕ) → BeginsFrame shape text → BeginsMark text
+frame_mark_of shape text b = record { mark = b.mark; rest = picture_text b.planes ++ b.rest; is_mark = b.is_mark; text_is = b.text_is }
+
+pub can_mark_of : (shape : Shape) (text : List ℕ) → CanBeginFrame shape text → CanBeginMark text
+can_mark_of shape text can = (can.0, frame_mark_of shape (text ++ can.0) can.1)
+
+-- a text that ends within the line
+pub no_frame-part : (shape : Shape) (front : List ℕ) → IsMarkPart front → ¬ BeginsFrame shape front
+no_frame-part shape front part b = part_no_mark part (frame_mark_of shape front b)
+
+-- a text that ends within the picture
+pub no_frame-line : (shape : Shape) (line got : List ℕ) → IsMark line → length got < bytes_of shape → ¬ BeginsFrame shape (line ++ got)
+no_frame-line shape line got mark short b =
+    let same = mark_unique got (picture_text b.planes ++ b.rest) mark b.is_mark b.text_is in
+    let body = append_cancel_left line got (picture_text b.planes ++ b.rest) (b.text_is ∙ ap (λ (xs : List ℕ). xs ++ (picture_text b.planes ++ b.rest)) (sym same)) in
+    let all = ap length body ∙ length-append (picture_text b.planes) b.rest in
+    let picture = length-picture shape b.planes b.are_planes in
     omega arith
 
--- a text that differs within the first line
-pub bad_frame : (shape : Shape) (room : ℕ) (left got rest : List ℕ) → left ≡ got ++ rest → length got ≤ room → length got ≤ 6 → got ≢ take (length got) frame_mark → IsBadFrame shape room left
-bad_frame shape room left got rest is within short differs = λ can.
-    let n = length got in
-    let b = can.1 in
-    let all = ap length is ∙ length-append got rest in
-    let front : take n (take room left ++ can.0) ≡ got =
-    take-append-le n (take room left) can.0 (let l = length-take room left in omega arith)
-    ∙ (take-take n room left within ∙ (ap (take n) is ∙ take_at got rest n refl)) in
-    let mark : take n (frame_text b.planes ++ b.rest) ≡ take n frame_mark =
-    ap (take n) (append_assoc frame_mark (picture_text b.planes) b.rest) ∙ take-append-le n frame_mark (picture_text b.planes ++ b.rest) short in
-    differs (sym front ∙ (ap (take n) b.text_is ∙ mark))
+-- the bytes within the limit begin with these
+pub front_of : (room : ℕ) (left got rest : List ℕ) → left ≡ got ++ rest → length got ≤ room → (more : List ℕ) × (take room left ≡ got ++ more)
+front_of room left got rest is within =
+    let whole : length got + (room - length got) ≡ room = omega arith in
+    (take (room - length got) rest, ap (take room) is ∙ (ap (λ (n : ℕ). take n (got ++ rest)) (sym whole) ∙ take-append-add got rest (room - length got)))
+
+-- a text that begins with bytes with which no line does
+pub bad_frame : (shape : Shape) (room : ℕ) (left got rest : List ℕ) → left ≡ got ++ rest → length got ≤ room → ¬ CanBeginMark got → IsBadFrame shape room left
+bad_frame shape room left got rest is within none can =
+    let front = front_of room left got rest is within in
+    let b = frame_mark_of shape (take room left ++ can.0) can.1 in
+    none (front.0 ++ can.0, record { mark = b.mark; rest = b.rest; is_mark = b.is_mark; text_is = sym (append_assoc got front.0 can.0) ∙ (ap (λ (xs : List ℕ). xs ++ can.0) (sym front.1) ∙ b.text_is) })

@@ -1,13 +1,15 @@
-mod NumeralLemmas
-pub mod HeaderLemmas
-pub mod LineLemmas
 mod RowLemmas
+pub mod LineLemmas
+pub mod MarkLemmas
 pub mod FrameLemmas
 pub mod FrameListLemmas
 mod ReadLemmas
+mod MarkReads
+mod HeadLemmas
 mod WriteLemmas
-mod WrittenLengths
 pub mod LawLemmas
 pub mod DecidedLemmas
+pub mod HeadLaws
 mod WrittenLemmas
-mod SlowLemmas
+pub mod FrameRuns
+pub mod Examples

@@ -1,30 +1,31 @@
 -- Reads one after another, and what follows of the text that was left.
-use Rattle.std.proofs.Common.{◌≡◌, ◌≢◌, ℕ, ◌+◌, ◌-◌, ◌*◌, ◌/◌, ◌^◌, ◌<◌, ◌≤◌, min, Bool, true, false, not, eqb, List, [], ◌++◌, length, take, drop, set, Some, Result, Ok, Err, ap, sym, ◌∙◌, subst, arith, refl, append_assoc, length-append, ⊎_elim, ℤ, pos}
+use Rattle.std.proofs.Common.{◌∷◌, ◌≡◌, ℕ, ◌+◌, ◌-◌, ◌*◌, ◌/◌, ◌^◌, ◌<◌, ◌≤◌, List, [], ◌++◌, length, take, drop, set, Some, Result, Ok, Err, IfOk, OnErr, ap, sym, ◌∙◌, subst, arith, refl, append_assoc, length-append, ℤ, pos}
 use Rattle.std.specs.List.{concat}
 use Rattle.std.specs.Option.{ForSome}
 use Rattle.std.specs.Result.{OkIff, result_unwrap_or}
-use Rattle.std.proofs.lemmas.List.{append-nil, take_at, take-append-le, length-take-le, length-take, nil_from_length, take_all, take_more_set, set-set}
+use Rattle.std.proofs.lemmas.List.{append-nil, take_at, length-take-le, take_all, take_more_set, set-set}
 use Rattle.std.proofs.Math.Nat.{add-mul, mul-le-mul_right, mul_comm, div-mul-le_self}
-use Rattle.std.proofs.lemmas.Bool.{not-false, cases_eq}
-use Rattle.std.proofs.lemmas.Int.{ints, to_z_pos}
+use Rattle.std.proofs.lemmas.Int.{to_z_pos}
 use mir.Val.{to_z}
 use mir.Syntax.{w64}
-use lib.Pointwise.{pointwise, bytes_decides}
 use Rattle.av_base.specs.declared.shapes.Shape.{Shape}
 use Rattle.av_base.specs.Shapes.{planes_of, columns_of, rows_of, bytes_of}
 use Rattle.av_frame.specs.Rasters.{Raster}
-use Rattle.av_frame.specs.Frames.{FrameValue, EditValue, plane_at, IsPicture}
+use Rattle.av_frame.specs.Frames.{FrameValue, EditValue, plane_at, ArePlanes, IsPicture}
 use Rattle.av_host.specs.World.{World}
 use Rattle.av_host.specs.Calls.{Reads}
 use Rattle.av_host.proofs.Runs.{Reads-append}
 use Rattle.av_host.specs.HostRuns.{ReadsSome}
-use Rattle.y4m_io.specs.FrameTexts.{frame_mark, picture_text, frame_text, frame_size, BeginsFrame, CanBeginFrame, IsBadFrame, IsTruncated, IsPastLimit}
-use Rattle.y4m_io.specs.Pieces.{ReadsWholePlane, ReadsShort, GivesMark}
+use Rattle.y4m_io.specs.FrameTexts.{picture_text, IsMark, BeginsFrame, CanBeginFrame, IsBadFrame, IsTruncated, IsPastLimit, frame_mark}
+use Rattle.y4m_io.specs.Pieces.{ReadsWholePlane, ReadsShort, HasEnded, ReadsNoMark, ReadsMarkPart, ReadsMarkPast, EndsWithin, ReadsFrame, Finds, CanBeginMark}
+use Rattle.y4m_io.specs.Sizes.{longest_mark}
 use Rattle.y4m_io.specs.Reading.{Reading, GivesFrame, Refuses}
 use Rattle.y4m_io.specs.declared.y4m_state.Stage.{Stage}
 use Rattle.y4m_io.specs.declared.y4m_state.Stage.TheVariants.{Headed, Spent}
-use Rattle.y4m_io.specs.declared.reader.Mark.TheVariants as mark
-use Rattle.y4m_io.proofs.FrameLemmas.{area_within, length-planes, length-frame, picture_text-push, can_begin-mark, can_begin-body, no_frame, bad_frame}
+use Rattle.y4m_io.specs.declared.reader.Found.{Found}
+use Rattle.y4m_io.specs.declared.reader.Found.TheVariants as found
+use Rattle.y4m_io.proofs.MarkLemmas.{length-mark, written_mark}
+use Rattle.y4m_io.proofs.FrameLemmas.{area_within, length-planes, length-picture, picture_text-push, can_begin-part, can_begin-line, no_frame-part, no_frame-line, bad_frame}
 
 -- ---- worlds
 
@@ -45,33 +46,6 @@ ended_after {a} {b} {id} {xs} c reads ended = λ left told. ended (drop (length 
 pub unwrapped : {E : Type 0} (r : Result ℕ E) (n d : ℕ) → OkIff r (n < 2 ^ 64) n → n < 2 ^ 64 → result_unwrap_or r d ≡ n
 unwrapped (Ok x) n d is fits = is.1
 unwrapped (Err e) n d is fits = absurd (is fits)
-
--- how much of the first line lies within the limit
-pub most_of : {E : Type 0} (r : Result ℕ E) (room u most : ℕ) → OkIff r (room < 2 ^ 64) room → room < 2 ^ 64 → u ≡ result_unwrap_or r 6 → most ≡ min 6 u → most ≡ min 6 room
-most_of r room u most is fits e f = f ∙ ap (min 6) (e ∙ unwrapped r room 6 is fits)
-
--- ---- the first line of a frame
-
--- The first n bytes of a buffer are tested for those of the line.
-same_marks : (n : ℕ) (buffer rest : List ℕ) → n ≤ length buffer → (pointwise eqb (take n (buffer ++ rest)) (take n frame_mark) ≡ true → take n buffer ≡ take n frame_mark)
-    × (take n buffer ≡ take n frame_mark → pointwise eqb (take n (buffer ++ rest)) (take n frame_mark) ≡ true)
-same_marks n buffer rest within =
-    let front : take n (buffer ++ rest) ≡ take n buffer = take-append-le n buffer rest within in
-    let decides = bytes_decides (take n (buffer ++ rest)) (take n frame_mark) in
-    (λ e. sym front ∙ decides.0 e, λ e. decides.1 (front ∙ e))
-
-pub mark_differs : (n : ℕ) (buffer rest : List ℕ) (b : Bool) → n ≤ length buffer → b ≡ not (pointwise eqb (take n (buffer ++ rest)) (take n frame_mark)) → b ≡ true
-    → take n buffer ≢ take (length (take n buffer)) frame_mark
-mark_differs n buffer rest b within is differ = λ same.
-    let long : length (take n buffer) ≡ n = length-take-le n buffer within in
-    let equal = (same_marks n buffer rest within).1 (same ∙ ap (λ m. take m frame_mark) long) in
-    let e : true ≡ false = sym differ ∙ (is ∙ ap not equal) in
-    cc
-
-pub mark_same : (n : ℕ) (buffer rest : List ℕ) (b : Bool) → n ≤ length buffer → b ≡ not (pointwise eqb (take n (buffer ++ rest)) (take n frame_mark)) → b ≡ false
-    → take n buffer ≡ take n frame_mark
-mark_same n buffer rest b within is same =
-    (same_marks n buffer rest within).0 (not-false (pointwise eqb (take n (buffer ++ rest)) (take n frame_mark)) (sym is ∙ same))
 
 -- ---- planes
 
@@ -174,123 +148,102 @@ module _ {old new next : World} {id plane : ℕ} {before now : EditValue} (h : R
 
 -- ---- what is found at the place of a frame
 
--- only a part of the first line is left
-truncated_mark : (shape : Shape) (room n : ℕ) → 0 < n → n < 6 → n ≤ room → IsTruncated shape room (take n frame_mark)
-truncated_mark shape room n some part within =
-    let long : length (take n frame_mark) ≡ n = length-take-le n frame_mark (omega arith) in
-    record {
-      some = omega arith;
-      within = omega arith;
-      can_begin = can_begin-mark shape n;
-      no_frame = no_frame shape (take n frame_mark) (omega arith);
-    }
+-- bytes with which no line of a frame begins
+-- what can't begin a frame's line isn't empty
+some_no_mark : (front : List ℕ) → ¬ CanBeginMark front → 0 < length front
+some_no_mark [] none = absurd (none (frame_mark, record { mark = frame_mark; rest = []; is_mark = written_mark; text_is = refl }))
+some_no_mark (x ∷ xs) none = omega arith
 
--- the first line and a part of the picture are left
-truncated_body : (shape : Shape) (room : ℕ) (got : List ℕ) → length got < bytes_of shape → frame_size shape ≤ room → IsTruncated shape room (frame_mark ++ got)
-truncated_body shape room got short within = record {
-  some = omega arith;
-  within = omega arith;
-  can_begin = can_begin-body shape got (omega arith);
-  no_frame = no_frame shape (frame_mark ++ got) (omega arith);
-}
+pub found_no_mark : {a c : World} {id room : ℕ} (shape : Shape) → ReadsNoMark a c id room → (0 < room) × ReadsSome a c id × ForSome (a.inputs.left id) (IsBadFrame shape room)
+found_no_mark {a} {c} {id} {room} shape r =
+    ((let some = some_no_mark r.front r.no_mark in let within = r.within in omega arith), (r.front, r.reads), λ left told. bad_frame shape room left r.front (drop (length r.front) left) (r.reads.inputs.begins left told) r.within r.no_mark)
 
--- the first line differs
-pub found_bad : {a c : World} {id : ℕ} (shape : Shape) (room most : ℕ) → most ≤ 6 → most ≤ room → GivesMark a c id most mark.Differs → ReadsSome a c id × ForSome (a.inputs.left id) (IsBadFrame shape room)
-found_bad {a} {c} {id} shape room most low within d =
-    ((d.0, d.1), λ left told. bad_frame shape room left d.0 (drop (length d.0) left) (d.1.inputs.begins left told) (let short = d.2 in omega arith) (let short = d.2 in omega arith) d.3)
+-- the input ended within the line
+pub found_mark_part : {a c : World} {id room : ℕ} (shape : Shape) → ReadsMarkPart a c id room → (0 < room) × ReadsSome a c id × ForSome (a.inputs.left id) (IsTruncated shape room)
+found_mark_part {a} {c} {id} {room} shape r = (
+  (let some = r.some in let within = r.within in omega arith),
+  (r.front, r.reads),
+  λ left told. subst (IsTruncated shape room) (sym (all_read r.reads r.ended left told)) record {
+    some = r.some;
+    within = r.within;
+    can_begin = can_begin-part shape r.front r.is_part;
+    no_frame = no_frame-part shape r.front r.is_part;
+  },
+)
 
--- the input ended before the first line
-pub found_end : {a c : World} {id : ℕ} (most n : ℕ) → n ≡ 0 → GivesMark a c id most (mark.Ended n) → Reads a c id [] × ForSome (a.inputs.left id) (λ left. left ≡ [])
-found_end {a} {c} {id} most n none d =
-    let reads : Reads a c id [] = subst (λ (m : ℕ). Reads a c id (take m frame_mark)) none d.0 in
-    (reads, all_read reads d.2)
+-- the limit comes after these bytes, and some bytes follow
+past_front : {a c : World} {id : ℕ} (room : ℕ) (front piece : List ℕ) → Reads a c id (front ++ piece) → length front ≡ room → 0 < length piece → ForSome (a.inputs.left id) (λ left. (room < length left) × (take room left ≡ front))
+past_front {a} {c} {id} room front piece reads all some = λ left told.
+    let rest = drop (length (front ++ piece)) left in
+    let begins : left ≡ front ++ (piece ++ rest) = reads.inputs.begins left told ∙ append_assoc front piece rest in (
+      let long = ap length begins ∙ length-append front (piece ++ rest) in let p = length-append piece rest in omega arith,
+      ap (take room) begins ∙ take_at front (piece ++ rest) room all,
+    )
 
--- the input ended within the first line
-pub found_ended : {a c : World} {id : ℕ} (shape : Shape) (room most n : ℕ) → most ≤ 6 → most ≤ room → n ≢ 0 → GivesMark a c id most (mark.Ended n)
-    → ReadsSome a c id × ForSome (a.inputs.left id) (IsTruncated shape room)
-found_ended {a} {c} {id} shape room most n low within some d =
-    ((take n frame_mark, d.0), λ left told. subst (IsTruncated shape room) (sym (all_read d.0 d.2 left told)) (truncated_mark shape room n (omega arith) (let part = d.1 in omega arith) (let part = d.1 in omega arith)))
+found_past : {a c : World} {id room : ℕ} (shape : Shape) (front piece : List ℕ) → Reads a c id (front ++ piece) → length front ≡ room → 0 < length piece → CanBeginFrame shape front → ¬ BeginsFrame shape front
+    → ReadsSome a c id × ForSome (a.inputs.left id) (IsPastLimit shape room)
+found_past {a} {c} {id} {room} shape front piece reads all some can none = (
+  (front ++ piece, reads),
+  λ left told.
+      let past = past_front room front piece reads all some left told in
+      record {
+        past = past.0;
+        can_begin = subst (CanBeginFrame shape) (sym past.1) can;
+        no_frame = subst (λ (t : List ℕ). ¬ BeginsFrame shape t) (sym past.1) none;
+      },
+)
+
+-- the limit comes within the line
+pub found_mark_past : {a c : World} {id room : ℕ} (shape : Shape) → ReadsMarkPast a c id room → (room < longest_mark + bytes_of shape) × ReadsSome a c id × ForSome (a.inputs.left id) (IsPastLimit shape room)
+found_mark_past {a} {c} {id} {room} shape r =
+    let past = found_past shape r.front r.piece r.reads r.all r.some (can_begin-part shape r.front r.is_part) (no_frame-part shape r.front r.is_part) in (
+      (let all = r.all in let part = r.is_part in let more = part.some in let long = length-append r.front part.more in let short = part.is_mark.short in omega arith),
+      past.0,
+      past.1,
+    )
 
 -- the input ended within the picture
-pub found_short : {a b c : World} {id : ℕ} (shape : Shape) (room : ℕ) → frame_size shape ≤ room → Reads a b id frame_mark → ReadsShort b c id (bytes_of shape)
-    → ReadsSome a c id × ForSome (a.inputs.left id) (IsTruncated shape room)
-found_short {a} {b} {c} {id} shape room within begun rest =
-    let reads = Reads-append begun rest.reads in
-    ((frame_mark ++ rest.got, reads), λ left told. subst (IsTruncated shape room) (sym (all_read reads (ended_after c begun rest.ended) left told)) (truncated_body shape room rest.got rest.short within))
+found_body : {a c : World} {id room : ℕ} (shape : Shape) (line got : List ℕ) → IsMark line → Reads a c id (line ++ got) → HasEnded a c id → length got < bytes_of shape → length (line ++ got) ≤ room
+    → (0 < room) × ReadsSome a c id × ForSome (a.inputs.left id) (IsTruncated shape room)
+found_body {a} {c} {id} {room} shape line got mark reads ended short within = (
+  (let all = length-append line got in let long = length-mark mark in omega arith),
+  (line ++ got, reads),
+  λ left told. subst (IsTruncated shape room) (sym (all_read reads ended left told)) record {
+    some = let all = length-append line got in let long = length-mark mark in omega arith;
+    within = within;
+    can_begin = can_begin-line shape line got mark (omega arith);
+    no_frame = no_frame-line shape line got mark short;
+  },
+)
 
--- The first line was read as far as the limit goes, and then some of what follows.
-pub record ReadsLast (old new : World) (id room most : ℕ) (got : List ℕ) : Type 0 where
-  pub most_is : most ≡ min 6 room
-  pub within : length got ≤ room - most
-  pub reads : Reads old new id (take most frame_mark ++ got)
+pub found_short : {a b c : World} {id room n : ℕ} (shape : Shape) (line : List ℕ) → IsMark line → length line ≡ n → Reads a b id line → ReadsShort b c id (bytes_of shape) → n + bytes_of shape ≤ room
+    → (0 < room) × ReadsSome a c id × ForSome (a.inputs.left id) (IsTruncated shape room)
+found_short {a} {b} {c} {id} {room} {n} shape line mark long begun rest within =
+    found_body shape line rest.got mark (Reads-append begun rest.reads) (ended_after c begun rest.ended) rest.short
+    (let all = length-append line rest.got in let short = rest.short in omega arith)
 
--- a read of nothing
-pub ReadsLast-stays : {a c d : World} {id room most : ℕ} {got : List ℕ} (n : ℕ) (piece : List ℕ) → n ≡ 0 → ReadsLast a c id room most got → Reads c d id (take n piece) → ReadsLast a d id room most got
-ReadsLast-stays {a} {c} {d} {id} {room} {most} {got} n piece none h reads =
-    let same : (take most frame_mark ++ got) ++ take n piece ≡ take most frame_mark ++ got =
-    ap (λ m. (take most frame_mark ++ got) ++ take m piece) none ∙ append-nil (take most frame_mark ++ got) in
-    record { most_is = h.most_is; within = h.within; reads = subst (λ (xs : List ℕ). Reads a d id xs) same (Reads-append h.reads reads) }
+-- the limit leaves no room for the picture
+pub found_last : {a b : World} {id room n : ℕ} (c : World) (before after : EditValue) (line : List ℕ) (f : Found) → IsMark line → length line ≡ n → n ≤ room → Reads a b id line → room - n < bytes_of before.shape
+    → EndsWithin b c id (room - n) f → Finds a c id room before after f
+found_last {a} {b} {id} {room} {n} c before after line found.Short mark long low begun small e =
+    found_body before.shape line e.0 mark (Reads-append begun e.1) (ended_after c begun e.3) (let w = e.2 in omega arith) (let all = length-append line e.0 in let w = e.2 in omega arith)
+found_last {a} {b} {id} {room} {n} c before after line found.Past mark long low begun small e =
+    let past = found_past before.shape (line ++ e.0) e.1 (subst (λ (xs : List ℕ). Reads a c id xs) (sym (append_assoc line e.0 e.1)) (Reads-append begun e.2))
+    (let all = length-append line e.0 in let w = e.3 in omega arith) e.4 (can_begin-line before.shape line e.0 mark (let w = e.3 in omega arith)) (no_frame-line before.shape line e.0 mark (let w = e.3 in omega arith)) in
+    ((let short = mark.short in omega arith), past.0, past.1)
+found_last c before after line (found.Frame k) mark long low begun small e = absurd e
+found_last c before after line found.End mark long low begun small e = absurd e
+found_last c before after line found.Bad mark long low begun small e = absurd e
 
--- there is no room, and nothing is left
-pub found_last-end : {a c : World} {id room most : ℕ} {got : List ℕ} → room ≡ 0 → ReadsLast a c id room most got → ForSome (a.inputs.left id) (λ _. c.inputs.left id ≡ Some [])
-    → Reads a c id [] × ForSome (a.inputs.left id) (λ left. left ≡ [])
-found_last-end {a} {c} {id} {room} {most} {got} none h ended =
-    let most_is = h.most_is in
-    let within = h.within in
-    let part = length-take most frame_mark in
-    let both = length-append (take most frame_mark) got in
-    let nothing : take most frame_mark ++ got ≡ [] = nil_from_length (take most frame_mark ++ got) (omega arith) in
-    let reads : Reads a c id [] = subst (λ (xs : List ℕ). Reads a c id xs) nothing h.reads in
-    (reads, all_read reads ended)
+-- the same, of a result
+pub ends_last : {a b : World} {id room n : ℕ} {E : Type 0} (c : World) (edit : EditValue) (r : Result Found E) (line : List ℕ) → IsMark line → length line ≡ n → n ≤ room → Reads a b id line → room - n < bytes_of edit.shape
+    → IfOk r (EndsWithin b c id (room - n)) → IfOk r (Finds a c id room edit edit)
+ends_last c edit (Ok f) line mark long low begun small e = found_last c edit edit line f mark long low begun small e
+ends_last c edit (Err e) line mark long low begun small h = tt
 
-module _ {a c : World} {id room most : ℕ} {got : List ℕ} (shape : Shape) (h : ReadsLast a c id room most got) (small : room < frame_size shape) where
-  text_long : length (take most frame_mark ++ got) ≡ most + length got
-  text_long =
-      let most_is = h.most_is in
-      length-append (take most frame_mark) got ∙ ap (λ n. n + length got) (length-take-le most frame_mark (omega arith))
-
-  text_begins : CanBeginFrame shape (take most frame_mark ++ got)
-  text_begins =
-      let most_is = h.most_is in
-      let within = h.within in
-      ⊎_elim
-      (λ (e : most ≡ 6). subst (λ (m : ℕ). CanBeginFrame shape (take m frame_mark ++ got)) (sym e) (can_begin-body shape got (omega arith)))
-      (λ (e : most ≢ 6).
-      let none : got ≡ [] = nil_from_length got (omega arith) in
-      subst (λ (g : List ℕ). CanBeginFrame shape (take most frame_mark ++ g)) (sym none) (subst (CanBeginFrame shape) (sym (append-nil (take most frame_mark))) (can_begin-mark shape most)))
-      (cases_eq most 6)
-
-  text_whole : ¬ BeginsFrame shape (take most frame_mark ++ got)
-  text_whole = no_frame shape (take most frame_mark ++ got) (let long = text_long in let most_is = h.most_is in let within = h.within in omega arith)
-
-  -- the input ended
-  pub found_last-short : 0 < room → ForSome (a.inputs.left id) (λ _. c.inputs.left id ≡ Some []) → 0 < most + length got → ReadsSome a c id × ForSome (a.inputs.left id) (IsTruncated shape room)
-  found_last-short some ended any = (
-    (take most frame_mark ++ got, h.reads),
-    λ left told. subst (IsTruncated shape room) (sym (all_read h.reads ended left told)) record {
-      some = let long = text_long in omega arith;
-      within = let long = text_long in let most_is = h.most_is in let within = h.within in omega arith;
-      can_begin = text_begins;
-      no_frame = text_whole;
-    },
-  )
-
-  -- more bytes follow if the limit is reached
-  pub found_last-past : {d : World} (piece : List ℕ) → 0 < length piece → length got ≡ room - most → Reads c d id piece → ReadsSome a d id × ForSome (a.inputs.left id) (IsPastLimit shape room)
-  found_last-past {d} piece some all reads =
-      let both = Reads-append h.reads reads in (
-        (_, both),
-        λ left told.
-            let rest = drop (length ((take most frame_mark ++ got) ++ piece)) left in
-            let begins : left ≡ (take most frame_mark ++ got) ++ (piece ++ rest) = both.inputs.begins left told ∙ append_assoc (take most frame_mark ++ got) piece rest in
-            let long : length (take most frame_mark ++ got) ≡ room = let l = text_long in let most_is = h.most_is in omega arith in
-            let front : take room left ≡ take most frame_mark ++ got = ap (take room) begins ∙ take_at (take most frame_mark ++ got) (piece ++ rest) room long in
-            record {
-              past = let all_long = ap length begins ∙ length-append (take most frame_mark ++ got) (piece ++ rest) in let p = length-append piece rest in omega arith;
-              can_begin = subst (CanBeginFrame shape) (sym front) text_begins;
-              no_frame = subst (λ (t : List ℕ). ¬ BeginsFrame shape t) (sym front) text_whole;
-            },
-      )
+pub refused_last : {T E : Type 0} {a b : World} {id : ℕ} {line : List ℕ} (c : World) (r : Result T E) → Reads a b id line → OnErr r (ReadsSome b c id) → OnErr r (ReadsSome a c id)
+refused_last c (Ok x) begun h = tt
+refused_last c (Err e) begun h = ReadsSome-append (_, begun) h
 
 -- ---- a reader's next frame
 
@@ -303,43 +256,47 @@ same_shape {id} {room} {frames} {stage} {told} {shape} reader view is headed =
     cc
 
 -- The frame that is given and the reader after it.
-frame_given : {old new : World} {id : ℕ} (room frames size : ℕ) (stage : Stage) (shape s : Shape) (edit : EditValue) → stage ≡ Headed shape → Reads old new id (frame_text edit.planes) → edit.shape ≡ shape → s ≡ edit.shape
-    → IsPicture edit.shape edit.planes → size ≡ bytes_of shape → frame_size shape ≤ room → 6 * frames + room < 2 ^ 64
-    → GivesFrame shape old new (record { id = id; room = room; frames = frames; stage = stage }) (record { id = id; room = room - (6 + size); frames = frames + 1; stage = Headed s })
+frame_given : {old new : World} {id : ℕ} (room frames n size : ℕ) (stage : Stage) (shape s : Shape) (edit : EditValue) (line : List ℕ) → stage ≡ Headed shape → IsMark line → length line ≡ n
+    → Reads old new id (line ++ picture_text edit.planes) → edit.shape ≡ shape → s ≡ edit.shape → IsPicture edit.shape edit.planes → size ≡ bytes_of shape → n + size ≤ room
+    → GivesFrame shape old new (record { id = id; room = room; frames = frames; stage = stage }) (record { id = id; room = room - (n + size); frames = frames + 1; stage = Headed s })
     (record { shape = edit.shape; planes = edit.planes; pts = pos frames; duration = pos 1 })
-frame_given {old} {new} {id} room frames size stage shape s edit headed reads kept told is size_is within few =
-    let long = length-frame edit.shape edit.planes is.sizes in
-    let same = ap frame_size kept in
-    let all : 6 + size ≡ length (frame_text edit.planes) = omega arith in
+frame_given {old} {new} {id} room frames n size stage shape s edit line headed mark long reads kept told is size_is within =
+    let are = subst (λ (z : Shape). ArePlanes z edit.planes) kept is.sizes in
+    let picture = length-picture shape edit.planes are in
+    let both = length-append line (picture_text edit.planes) in
+    let all : n + size ≡ length (line ++ picture_text edit.planes) = omega arith in
     record {
+      mark = line;
+      is_mark = mark;
       reads = reads;
-      frame = record {
-        shape_is = kept;
-        is_frame = record { picture = is; pts = (omega (arith, ints), omega (arith, ints)); duration = (omega (arith, ints), omega (arith, ints)) };
-        pts = refl;
-        duration = refl;
-      };
+      frame = record { shape_is = kept; are_planes = are; pts = refl; duration = refl };
       within = omega arith;
       after_is =
-          ap (λ n. record { id = id; room = room - n; frames = frames + 1; stage = Headed s }) all
-          ∙ ap (λ (t : Stage). record { id = id; room = room - length (frame_text edit.planes); frames = frames + 1; stage = t }) (ap Headed (told ∙ kept) ∙ sym headed);
+          ap (λ k. record { id = id; room = room - k; frames = frames + 1; stage = Headed s }) all
+          ∙ ap (λ (t : Stage). record { id = id; room = room - length (line ++ picture_text edit.planes); frames = frames + 1; stage = t }) (ap Headed (told ∙ kept) ∙ sym headed);
     }
 
 -- the same, of a reader by its value
-pub gives_frame : {old new : World} {id room frames size : ℕ} {stage : Stage} {told shape s : Shape} {f : FrameValue} (reader : Reading) (edit : EditValue)
-    → record { id = id; room = room; frames = frames; stage = stage } ≡ reader → stage ≡ Headed told → reader.stage ≡ Headed shape → Reads old new id (frame_text edit.planes) → edit.shape ≡ told → s ≡ edit.shape
-    → IsPicture edit.shape edit.planes → size ≡ bytes_of told → frame_size told ≤ room → 6 * frames + room < 2 ^ 64 → f ≡ record { shape = edit.shape; planes = edit.planes; pts = to_z w64 frames; duration = pos 1 }
-    → GivesFrame shape old new reader (record { id = id; room = room - (6 + size); frames = frames + 1; stage = Headed s }) f
-gives_frame {old} {new} {id} {room} {frames} {size} {stage} {told} {shape} {s} {f} reader edit view is headed reads kept kept' picture size_is within few sealed =
+pub gives_frame : {old new : World} {id room frames n size : ℕ} {stage : Stage} {told shape s : Shape} {f : FrameValue} (reader : Reading) (before edit : EditValue)
+    → record { id = id; room = room; frames = frames; stage = stage } ≡ reader → stage ≡ Headed told → reader.stage ≡ Headed shape → ReadsFrame old new id room before edit n → before.shape ≡ told → s ≡ edit.shape
+    → IsPicture edit.shape edit.planes → size ≡ bytes_of told → 6 * frames + room < 2 ^ 64 → f ≡ record { shape = edit.shape; planes = edit.planes; pts = to_z w64 frames; duration = pos 1 }
+    → GivesFrame shape old new reader (record { id = id; room = room - (n + size); frames = frames + 1; stage = Headed s }) f
+gives_frame {old} {new} {id} {room} {frames} {n} {size} {stage} {told} {shape} {s} {f} reader before edit view is headed found blank kept picture size_is few sealed =
     let same = same_shape reader view is headed in
-    let after : Reading = record { id = id; room = room - (6 + size); frames = frames + 1; stage = Headed s } in
+    let after : Reading = record { id = id; room = room - (n + size); frames = frames + 1; stage = Headed s } in
     let bytes = ap bytes_of same in
+    let wide = ap bytes_of blank in
+    let within = found.within in
     let low : frames < 2 ^ 63 = omega arith in
     let timed : f ≡ record { shape = edit.shape; planes = edit.planes; pts = pos frames; duration = pos 1 } =
     sealed ∙ ap (λ (z : ℤ). record { shape = edit.shape; planes = edit.planes; pts = z; duration = pos 1 }) (to_z_pos w64 frames low) in
     subst (λ (r : Reading). GivesFrame shape old new r after f) view
     (subst (λ (v : FrameValue). GivesFrame shape old new (record { id = id; room = room; frames = frames; stage = stage }) after v) (sym timed)
-    (frame_given room frames size stage shape s edit (is ∙ ap Headed same) reads (kept ∙ same) kept' picture (omega arith) (omega arith) few))
+    (frame_given room frames n size stage shape s edit found.line (is ∙ ap Headed same) found.is_mark found.long found.reads (found.shape ∙ (blank ∙ same)) kept picture (omega arith) (omega arith)))
+
+-- the room after a frame
+pub room_after : (room frames n size : ℕ) (line : List ℕ) → IsMark line → length line ≡ n → n + size ≤ room → 6 * frames + room < 2 ^ 64 → 6 * (frames + 1) + (room - (n + size)) < 2 ^ 64
+room_after room frames n size line mark long within few = let some = length-mark mark in omega arith
 
 -- the cause of a failure
 pub refused : {old new : World} {id room frames : ℕ} {stage : Stage} {told shape : Shape} (Cause : Shape → ℕ → List ℕ → Type 0) (reader : Reading) (was : Shape)

@@ -8,9 +8,11 @@ use Rattle.av_host.specs.World.{World}
 use Rattle.av_host.specs.Calls.{Changes, appended}
 use Rattle.av_host.proofs.Runs.{Changes-append}
 use Rattle.av_frame.specs.Rasters.{Raster, blank_raster}
-use Rattle.av_frame.specs.Frames.{plane_at}
+use Rattle.av_base.specs.declared.shapes.Shape.{Shape}
+use Rattle.av_frame.specs.Frames.{FrameValue, ArePlanes, IsFrame, plane_at}
 use Rattle.av_host.specs.HostRuns.{WritesPart}
-use Rattle.y4m_io.specs.FrameTexts.{picture_text}
+use Rattle.y4m_io.specs.FrameTexts.{picture_text, frame_text, frame_size}
+use Rattle.y4m_io.proofs.FrameLemmas.{length-frame}
 use Rattle.y4m_io.proofs.RowLemmas.{concat-push}
 
 -- a beginning of a front of a text is a beginning of the text
@@ -87,3 +89,9 @@ WritesPart-plane {a} {b} {c} {id} p planes now same less before done =
     let rest = picture_text (drop (p + 1) planes) in
     subst (λ (z : List ℕ). WritesPart a c id z) (sym (picture-parts p planes less))
     (WritesPart-after (picture_text (take p planes)) (text ++ rest) before (WritesPart-front text rest here))
+
+-- ---- frames
+
+pub frame_length : (old new : FrameValue) (shape : Shape) → new ≡ old → old.shape ≡ shape → IsFrame new → length (frame_text old.planes) ≡ frame_size shape
+frame_length old new shape same fits is =
+    length-frame shape old.planes (subst (λ (s : Shape). ArePlanes s old.planes) fits (subst (λ (f : FrameValue). ArePlanes f.shape f.planes) same is.picture.sizes))

@@ -1,8 +1,6 @@
 pub mod Sizes
-pub mod Numerals
-pub mod HeaderTexts
 pub mod FrameTexts
-pub mod Pictures
+pub mod Heads
 pub mod Files
 pub mod Pieces
 pub mod Reading

@@ -5,6 +5,6 @@ use Rattle.std.specs.Prelude.{ℕ}
 abbrev pub piece_size : ℕ
 piece_size = 65536
 
--- how many bytes a header line has at most, with its line feed
-abbrev pub longest_line : ℕ
-longest_line = 1024
+-- how many bytes a frame's line has at most, with its line feed
+abbrev pub longest_mark : ℕ
+longest_mark = 256

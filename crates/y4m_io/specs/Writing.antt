@@ -19,7 +19,7 @@ pub record Writing : Type 0 where
   pub progress : Progress
   pub bytes : ℕ
 
--- a count of bytes and so many more, up to the greatest number of 64 bits
+-- a count of bytes with more added to it, up to the greatest number of 64 bits
 abbrev pub counted : ℕ → ℕ → ℕ
 counted bytes more = min (bytes + more) (2 ^ 64 - 1)
 

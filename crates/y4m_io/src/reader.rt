@@ -1,5 +1,5 @@
 //! The reader of YUV4MPEG2 files.
-ghost use Rattle.std.specs.Prelude.{◌≡◌, ◌≢◌, ◌+◌, ◌*◌, ◌<◌, ◌≤◌, ◌^◌, ◌++◌, [], Some, ◌∷◌, Ok, ℕ, List, take, length, IfOk, IfSome, OnErr, IsTrue, IsSome, MatchResult, Contains};
+ghost use Rattle.std.specs.Prelude.{◌≡◌, ◌⊎◌, ◌+◌, ◌*◌, ◌<◌, ◌≤◌, ◌^◌, ◌++◌, [], Some, ◌∷◌, Ok, ℕ, List, true, false, take, length, IfOk, IfSome, OnErr, IsTrue, MatchResult};
 ghost use Rattle.std.specs.Option.{ForSome, option_to_list};
 ghost use Rattle.av_base.specs.declared.shapes.Shape.{Shape};
 ghost use Rattle.av_base.specs.Bounds.{greatest_side};
@@ -7,29 +7,30 @@ ghost use Rattle.av_base.specs.Shapes.{planes_of, columns_of, IsWithinLimits};
 ghost use Rattle.av_host.specs.Calls.{Stays, Reads, RaisesReads};
 ghost use Rattle.av_host.specs.HostRuns.{ReadsSome};
 ghost use Rattle.y4m_io.specs.Sizes.{piece_size};
-ghost use Rattle.y4m_io.specs.FrameTexts.{frame_size};
-ghost use Rattle.y4m_io.specs.Pieces.{GivesLine, ReadsPlane, ReadsPicture, GivesMark, Finds};
+ghost use Rattle.y4m_io.specs.Heads.{head_error};
+ghost use Rattle.y4m_io.specs.FrameTexts.{frame_mark};
+ghost use Rattle.y4m_io.specs.Pieces.{GivesLine, ReadsPlane, ReadsPicture, Begins, spaced_mark, CanBeginMark, GivesMark, EndsWithin, Finds};
 ghost use Rattle.y4m_io.specs.Reading.{Heads, CountsHead, IsHeaded, Gives, CountsNext};
 ghost use Rattle.y4m_io.specs.declared.y4m_state.Stage.{Stage};
 
-use crate::header::read_header;
 use crate::rows::put_rows;
-use crate::y4m_limits::{FRAME_MARK, LINE_MAX, PIECE};
+use crate::y4m_limits::{FRAME_MARK, LINE_MAX, MAGIC, MARK_MAX, PIECE, SPACED_MARK};
 use crate::y4m_state::Stage;
 use av_base::{NoMemory, Shape};
 use av_frame::{Edit, Frame, HeadError, NextError, Pools};
 use av_host::{Failed, Host, fill};
 use std::alloc::Global;
 use std::marker::Model;
+use y4m_header::{HeaderFault, front_fault, read_header};
 
-/// What the reading of a line found.
+/// What the reading of a line found, of which the bytes are at the front of a buffer.
 enum Line {
-    /// A line of this many bytes, with its line feed.
+    /// A line of this many bytes, and its line feed after them.
     Whole(usize),
-    /// The input ends before a line feed, or the line is longer than a header may be.
-    Unended,
-    /// The limit of bytes comes before the line feed, and before the input's end.
-    PastLimit,
+    /// This many bytes without a line feed. The input ends after them, or a header line must have ended by then.
+    Unended(usize),
+    /// This many bytes without a line feed, up to the limit, which is less than a header line may have. More follow.
+    Cut(usize),
 }
 
 /// How a picture ended.
@@ -40,20 +41,24 @@ enum Ending {
     Short,
 }
 
-/// How much of a frame's first line was there.
+/// What the reading of a frame's line found.
 enum Mark {
-    /// All bytes that were asked for, and they are the line's.
-    Whole,
-    /// Some byte is another than the line's.
-    Differs,
-    /// The input ended after this many of the line's bytes.
-    Ended(usize),
+    /// A line of this many bytes, with its line feed.
+    Whole(usize),
+    /// Something that is no frame's line, whatever follows.
+    Bad,
+    /// The end of the input.
+    End,
+    /// The input's end within the line.
+    Short,
+    /// The limit of bytes within the line, and more bytes.
+    Past,
 }
 
 /// What was found at the place of a frame.
 enum Found {
-    /// A whole frame.
-    Frame,
+    /// A whole frame, whose line has this many bytes.
+    Frame(usize),
     /// The end of the input.
     End,
     /// Something that is no frame, whatever follows.
@@ -98,6 +103,7 @@ fn read_byte<H: Host>(
     requires at { at < length buffer.old }
     ensures read { IfOk result (λ byte. Reads (H.world host.old) (H.world host.new) id (option_to_list byte)) }
     ensures kept { IfOk result (λ byte. IfSome byte (λ b. take (at + 1) buffer.new ≡ take at buffer.old ++ b ∷ [])) }
+    ensures front { take at buffer.new ≡ take at buffer.old }
     ensures end { result ≡ Ok None → ForSome ((H.world host.old).inputs.left id) (λ left. left ≡ []) }
     ensures refused { OnErr result (Stays (H.world host.old) (H.world host.new)) }
     ensures faults { MatchResult result (λ _. (H.world host.new).faults ≡ (H.world host.old).faults)
@@ -109,7 +115,7 @@ fn read_byte<H: Host>(
     Ok(Some(buffer[at]))
 }
 
-/// Reads a line byte by byte, of at most `LINE_MAX` bytes and at most `room`.
+/// Reads a line byte by byte, of at most `LINE_MAX` bytes and at most `room`, to the front of the buffer.
 fn read_line<H: Host>(host: &mut H, id: u32, room: u64, buffer: &mut [u8]) -> Result<Line, Failed>
     requires id { IsTrue ((H.world host.old).inputs.is_open id) }
     requires long { length buffer.old ≡ piece_size }
@@ -121,17 +127,28 @@ fn read_line<H: Host>(host: &mut H, id: u32, room: u64, buffer: &mut [u8]) -> Re
     let most = room.min(LINE_MAX as u64) as usize;
     for n in 0..most {
         match read_byte(host, id, buffer, n)? {
-            None => return Ok(Line::Unended),
-            Some(b'\n') => return Ok(Line::Whole(n + 1)),
+            None => return Ok(Line::Unended(n)),
+            Some(b'\n') => return Ok(Line::Whole(n)),
             Some(_) => {}
         }
     }
     if most == LINE_MAX {
-        return Ok(Line::Unended);
+        return Ok(Line::Unended(most));
     }
-    match read_byte(host, id, buffer, 0)? {
-        None => Ok(Line::Unended),
-        Some(_) => Ok(Line::PastLimit),
+    match read_byte(host, id, buffer, most)? {
+        None => Ok(Line::Unended(most)),
+        Some(_) => Ok(Line::Cut(most)),
+    }
+}
+
+/// What the reader returns for a fault of a header line.
+fn line_error(fault: HeaderFault) -> HeadError
+    ensures { result ≡ head_error fault }
+{
+    match fault {
+        HeaderFault::NotMedia => HeadError::NotMedia,
+        HeaderFault::BadHeader => HeadError::BadHeader,
+        HeaderFault::BadColour => HeadError::BadColour,
     }
 }
 
@@ -216,60 +233,69 @@ fn skip<H: Host>(host: &mut H, id: u32, most: u64, buffer: &mut [u8]) -> Result<
     Ok(skipped)
 }
 
-/// Reads the first bytes of a frame's first line.
-fn read_mark<H: Host>(host: &mut H, id: u32, most: usize) -> Result<Mark, Failed>
-    requires id { IsTrue ((H.world host.old).inputs.is_open id) }
-    requires within { most ≤ 6 }
-    ensures mark { IfOk result (GivesMark (H.world host.old) (H.world host.new) id most) }
-    ensures refused { OnErr result (ReadsSome (H.world host.old) (H.world host.new) id) }
-    ensures faults { MatchResult result (λ _. (H.world host.new).faults ≡ (H.world host.old).faults)
-        (λ _. RaisesReads (H.world host.old).faults (H.world host.new).faults) }
+/// Whether a frame's line may begin with these bytes, of which there are at most 6.
+fn is_front(bytes: &[u8]) -> bool
+    requires { length bytes.now ≤ 6 }
+    ensures yes { result ≡ true → Begins bytes.now frame_mark ⊎ Begins bytes.now spaced_mark }
+    ensures no { result ≡ false → ¬ CanBeginMark bytes.now }
 {
-    let mut mark = [0u8; 6];
-    let n = fill(host, id, &mut mark[..most])?;
-    if mark[..n] != FRAME_MARK[..n] {
-        return Ok(Mark::Differs);
-    }
-    if n < most {
-        return Ok(Mark::Ended(n));
-    }
-    Ok(Mark::Whole)
+    FRAME_MARK.starts_with(bytes) || SPACED_MARK.starts_with(bytes)
 }
 
-/// Finds how the input goes on if the limit leaves no room for a frame of the edit's shape.
-fn read_last<H: Host>(
-    host: &mut H,
-    id: u32,
-    room: u64,
-    _edit: &Edit,
-    buffer: &mut [u8],
-) -> Result<Found, Failed>
+/// Reads the line of a frame: its first bytes at once, and parameters byte by byte.
+fn read_mark<H: Host>(host: &mut H, id: u32, room: u64, buffer: &mut [u8]) -> Result<Mark, Failed>
     requires id { IsTrue ((H.world host.old).inputs.is_open id) }
     requires long { length buffer.old ≡ piece_size }
-    requires room { room < frame_size _edit.now.shape }
-    ensures found { IfOk result (Finds (H.world host.old) (H.world host.new) id room _edit.now _edit.now) }
-    ensures no_frame { result ≢ Ok Found.Frame }
+    ensures mark { IfOk result (GivesMark (H.world host.old) (H.world host.new) id room) }
     ensures refused { OnErr result (ReadsSome (H.world host.old) (H.world host.new) id) }
     ensures faults { MatchResult result (λ _. (H.world host.new).faults ≡ (H.world host.old).faults)
         (λ _. RaisesReads (H.world host.old).faults (H.world host.new).faults) }
 {
-    let most = FRAME_MARK
-        .len()
-        .min(usize::try_from(room).unwrap_or(FRAME_MARK.len()));
-    match read_mark(host, id, most)? {
-        Mark::Differs => return Ok(Found::Bad),
-        Mark::Ended(0) => return Ok(Found::End),
-        Mark::Ended(_) => return Ok(Found::Short),
-        Mark::Whole => {}
+    let most = room.min(MARK_MAX as u64) as usize;
+    let first = most.min(FRAME_MARK.len());
+    let size = fill(host, id, &mut buffer[..first])?;
+    if !is_front(&buffer[..size]) {
+        return Ok(Mark::Bad);
     }
-    let rest = room - most as u64;
-    if skip(host, id, rest, buffer)? < rest {
+    if size < first {
+        return Ok(if size == 0 { Mark::End } else { Mark::Short });
+    }
+    if size == FRAME_MARK.len() && buffer[5] == b'\n' {
+        return Ok(Mark::Whole(size));
+    }
+    for n in first..most {
+        match read_byte(host, id, buffer, n)? {
+            None => return Ok(Mark::Short),
+            Some(b'\n') => return Ok(Mark::Whole(n + 1)),
+            Some(_) => {}
+        }
+    }
+    if most == MARK_MAX {
+        return Ok(Mark::Bad);
+    }
+    match read_byte(host, id, buffer, most)? {
+        None => Ok(if most == 0 { Mark::End } else { Mark::Short }),
+        Some(_) => Ok(Mark::Past),
+    }
+}
+
+/// Finds how the input ends if `room` bytes after a frame's line are within the limit, which are fewer than its picture
+/// has.
+fn read_last<H: Host>(host: &mut H, id: u32, room: u64, buffer: &mut [u8]) -> Result<Found, Failed>
+    requires id { IsTrue ((H.world host.old).inputs.is_open id) }
+    requires long { length buffer.old ≡ piece_size }
+    ensures found { IfOk result (EndsWithin (H.world host.old) (H.world host.new) id room) }
+    ensures refused { OnErr result (ReadsSome (H.world host.old) (H.world host.new) id) }
+    ensures faults { MatchResult result (λ _. (H.world host.new).faults ≡ (H.world host.old).faults)
+        (λ _. RaisesReads (H.world host.old).faults (H.world host.new).faults) }
+{
+    if skip(host, id, room, buffer)? < room {
         return Ok(Found::Short);
     }
-    if fill(host, id, &mut buffer[..1])? > 0 {
-        return Ok(Found::Past);
+    if fill(host, id, &mut buffer[..1])? == 0 {
+        return Ok(Found::Short);
     }
-    Ok(if room == 0 { Found::End } else { Found::Short })
+    Ok(Found::Past)
 }
 
 /// Finds how the input goes on, and reads the frame if one is whole within the limit.
@@ -284,22 +310,24 @@ fn read_frame<H: Host>(
     requires limits { IsWithinLimits edit.old.shape }
     requires long { length buffer.old ≡ piece_size }
     ensures found { IfOk result (Finds (H.world host.old) (H.world host.new) id room edit.old edit.new) }
-    ensures within { result ≡ Ok Found.Frame → frame_size edit.old.shape ≤ room }
     ensures refused { OnErr result (ReadsSome (H.world host.old) (H.world host.new) id) }
     ensures faults { MatchResult result (λ _. (H.world host.new).faults ≡ (H.world host.old).faults)
         (λ _. RaisesReads (H.world host.old).faults (H.world host.new).faults) }
 {
-    if FRAME_MARK.len() as u64 + edit.shape().picture_bytes() > room {
-        return read_last(host, id, room, edit, buffer);
+    let size = match read_mark(host, id, room, buffer)? {
+        Mark::Whole(size) => size,
+        Mark::Bad => return Ok(Found::Bad),
+        Mark::End => return Ok(Found::End),
+        Mark::Short => return Ok(Found::Short),
+        Mark::Past => return Ok(Found::Past),
+    };
+    let left = room - size as u64;
+    if edit.shape().picture_bytes() > left {
+        return read_last(host, id, left, buffer);
     }
-    match read_mark(host, id, FRAME_MARK.len())? {
-        Mark::Differs => Ok(Found::Bad),
-        Mark::Ended(0) => Ok(Found::End),
-        Mark::Ended(_) => Ok(Found::Short),
-        Mark::Whole => match read_picture(host, id, edit, buffer)? {
-            Ending::Whole => Ok(Found::Frame),
-            Ending::Short => Ok(Found::Short),
-        },
+    match read_picture(host, id, edit, buffer)? {
+        Ending::Whole => Ok(Found::Frame(size)),
+        Ending::Short => Ok(Found::Short),
     }
 }
 
@@ -331,9 +359,9 @@ impl Reader {
     /// Reads the header line, and returns its shape.
     ///
     /// # Errors
-    /// `BadHeader` if no header line of the form is within the limit, `TooLong` if the line isn't over within a limit
-    /// that is less than a line may have and more bytes follow, and `Host` exactly if the host's count of reads rose.
-    /// The reader is spent then.
+    /// `NotMedia`, `BadHeader` and `BadColour` for a fault of the header line, `TooLong` if the line isn't over within a
+    /// limit that is less than a line may have, more bytes follow and it may still be in order, and `Host` exactly if
+    /// the host's count of reads rose. The reader is spent then.
     pub fn header<H: Host>(&mut self, _alloc: Global, host: &mut H) -> Result<Shape, HeadError>
         requires id { IsTrue ((H.world host.old).inputs.is_open self.old.id) }
         requires fresh { self.old.stage ≡ Stage.Fresh }
@@ -343,17 +371,23 @@ impl Reader {
         self.stage = Stage::Spent;
         let size = match read_line(host, self.id, self.room, &mut self.buffer) {
             Ok(Line::Whole(size)) => size,
-            Ok(Line::Unended) => return Err(HeadError::BadHeader),
-            Ok(Line::PastLimit) => return Err(HeadError::TooLong),
+            Ok(Line::Unended(size)) if self.buffer[..size].starts_with(MAGIC) => {
+                return Err(HeadError::BadHeader);
+            }
+            Ok(Line::Unended(_)) => return Err(HeadError::NotMedia),
+            Ok(Line::Cut(size)) => match front_fault(&self.buffer[..size]) {
+                Some(fault) => return Err(line_error(fault)),
+                None => return Err(HeadError::TooLong),
+            },
             Err(Failed) => return Err(HeadError::Host),
         };
         match read_header(&self.buffer[..size]) {
-            Some(shape) => {
-                self.room -= size as u64;
+            Ok(shape) => {
+                self.room -= size as u64 + 1;
                 self.stage = Stage::Headed(shape);
                 Ok(shape)
             }
-            None => Err(HeadError::BadHeader),
+            Err(fault) => Err(line_error(fault)),
         }
     }
 
@@ -385,9 +419,9 @@ impl Reader {
         };
         self.stage = Stage::Spent;
         match read_frame(host, self.id, self.room, &mut edit, &mut self.buffer) {
-            Ok(Found::Frame) => {
+            Ok(Found::Frame(size)) => {
                 self.stage = Stage::Headed(edit.shape());
-                self.room -= FRAME_MARK.len() as u64 + shape.picture_bytes();
+                self.room -= size as u64 + shape.picture_bytes();
                 let pts = self.frames as i64;
                 self.frames += 1;
                 Ok(Some(edit.seal(pts, 1)))

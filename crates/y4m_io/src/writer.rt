@@ -6,13 +6,13 @@ ghost use Rattle.av_base.specs.Shapes.{planes_of, columns_of};
 ghost use Rattle.av_host.specs.Calls.{Changes, appended, Counts, RaisesWrites};
 ghost use Rattle.av_frame.specs.Frames.{plane_at};
 ghost use Rattle.av_host.specs.HostRuns.{WritesPart};
-ghost use Rattle.y4m_io.specs.Sizes.{piece_size, longest_line};
-ghost use Rattle.y4m_io.specs.HeaderTexts.{header_text, IsWritable};
+ghost use Rattle.y4m_io.specs.Sizes.{piece_size};
+ghost use Rattle.y4m_header.specs.HeaderLaws.{longest_line};
+ghost use Rattle.y4m_header.specs.HeaderTexts.{header_text, IsWritable};
 ghost use Rattle.y4m_io.specs.FrameTexts.{picture_text, frame_text, frame_size, greatest_frame};
 ghost use Rattle.y4m_io.specs.Writing.{Writes, CountsWrite, write_error_of};
 ghost use Rattle.y4m_io.specs.declared.y4m_state.Progress.{Progress};
 
-use crate::header::write_header;
 use crate::rows::copy_rows;
 use crate::y4m_limits::{FRAME_MARK, PIECE};
 use crate::y4m_state::Progress;
@@ -21,6 +21,7 @@ use av_frame::{Frame, WriteError};
 use av_host::{Host, HostError, write_all};
 use std::alloc::Global;
 use std::marker::Model;
+use y4m_header::write_header;
 
 /// A writer to one output of a host. Contracts see which output it writes, the shape of its pictures, how far it is, and how
 /// many bytes it wrote.
@@ -36,7 +37,7 @@ pub struct Writer {
 impl Model for Writer {
     ghost use Rattle.std.specs.Prelude.{◌≡◌, vec_len};
     ghost use Rattle.y4m_io.specs.Sizes.{piece_size};
-    ghost use Rattle.y4m_io.specs.HeaderTexts.{IsWritable};
+    ghost use Rattle.y4m_header.specs.HeaderTexts.{IsWritable};
     ghost use Rattle.y4m_io.specs.Writing.{Writing};
 
     ghost Value = { Writing };

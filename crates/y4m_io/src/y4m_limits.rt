@@ -6,8 +6,14 @@ pub(crate) const PIECE: usize = 65536;
 /// The greatest number of bytes of a header line, with its line feed (`longest_line`).
 pub(crate) const LINE_MAX: usize = 1024;
 
-/// The line that begins a frame.
+/// The greatest number of bytes of a frame's line, with its line feed (`longest_mark`).
+pub(crate) const MARK_MAX: usize = 256;
+
+/// The line that begins a frame, as it is written.
 pub(crate) const FRAME_MARK: &[u8; 6] = b"FRAME\n";
 
-/// The greatest number in a header line, which is 1 less than `number_bound`.
-pub(crate) const NUMBER_MAX: u64 = 0x7fff_ffff;
+/// The first bytes of a frame's line that has parameters.
+pub(crate) const SPACED_MARK: &[u8; 6] = b"FRAME ";
+
+/// What a header line begins with.
+pub(crate) const MAGIC: &[u8; 9] = b"YUV4MPEG2";

@@ -1,4 +1,4 @@
-use Rattle.std.proofs.Common.{ap, sym, subst}
+use Rattle.std.proofs.Common.{ap, sym, subst, arith}
 use Rattle.av_host.specs.Calls.{Opens}
 use Rattle.y4m_io.specs.Reading.{Reading}
 use Rattle.avgraph.specs.Bounds.{greatest_input}
@@ -16,5 +16,5 @@ returns-in-Err-header-clause-opens g c =
     let b = g.H.Host.world c.open_input.new.self in
     let made = c.in-Ok-new.ensures in
     rw c.stopped_heading.ensures
-    (heading_refused greatest_input a b (g.H.Host.world c.header.new.host) c.args.name.now c.in-Ok-new.reader c.header.new.self c.in-Err-header.error
+    (heading_refused greatest_input a b (g.H.Host.world c.header.new.host) c.args.name.now c.in-Ok-new.reader c.header.new.self c.in-Err-header.error (omega arith)
     (subst (λ (r : Reading). Opens a b c.args.name.now r.id) (sym made) c.in-Ok.ensures.opened) (ap (λ (r : Reading). r.room) made) c.in-Err-header.ensures.heads)

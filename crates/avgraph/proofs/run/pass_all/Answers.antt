@@ -5,6 +5,7 @@ use Rattle.y4m_io.specs.FrameTexts.{frame_text}
 use Rattle.y4m_io.specs.Reading.{Reading}
 use Rattle.y4m_io.specs.Writing.{Writing}
 use Rattle.avgraph.proofs.RunLemmas.{SoFar-none, counts_exactly, same_after, step, next_refused, pass_refused, write_refused, finished}
+use Rattle.avgraph.specs.Bounds.{greatest_input}
 use Rattle.avgraph.proofs.run.pass_all.Goals as goal
 
 pub loop-frame-init : goal.loop-frame-init
@@ -65,13 +66,13 @@ pub returns-in-Err-clause-runs : goal.returns-in-Err-clause-runs
 returns-in-Err-clause-runs g c =
     let i = c.loop-frame.invariant in
     let init = c.args.chain.now in
-    rw c.stopped_reading.ensures (next_refused init.shape init.readies c.loop-frame.reader c.args.reader.now c.args.writer.now c.loop-frame.writer i.writer i.so_far _ _ c.in-Err.error i.id (c.in-Err.ensures.gives init.shape i.stage))
+    rw c.stopped_reading.ensures (next_refused init.shape init.readies c.loop-frame.reader c.args.reader.now c.args.writer.now c.loop-frame.writer i.writer i.so_far greatest_input _ _ c.in-Err.error i.id (c.in-Err.ensures.gives init.shape i.stage))
 
 pub returns-in-Err-pass-clause-runs : goal.returns-in-Err-pass-clause-runs
 returns-in-Err-pass-clause-runs g c =
     let i = c.loop-frame.invariant in
     let init = c.args.chain.now in
-    pass_refused init.shape init.readies c.loop-frame.reader c.args.reader.now c.args.writer.now c.loop-frame.writer i.writer i.so_far i.id ((rw c.in-Ok-Some.field-0-is at c.in-Ok-Some.ensures.gives) init.shape i.stage)
+    pass_refused init.shape init.readies c.loop-frame.reader c.args.reader.now c.args.writer.now c.loop-frame.writer i.writer i.so_far greatest_input i.id ((rw c.in-Ok-Some.field-0-is at c.in-Ok-Some.ensures.gives) init.shape i.stage)
 
 pub returns-in-Err-frame-clause-runs : goal.returns-in-Err-frame-clause-runs
 returns-in-Err-frame-clause-runs g c =
@@ -79,7 +80,7 @@ returns-in-Err-frame-clause-runs g c =
     let init = c.args.chain.now in
     let gives = (rw c.in-Ok-Some.field-0-is at c.in-Ok-Some.ensures.gives) init.shape i.stage in
     rw c.stopped_writing.ensures
-    (write_refused init.shape init.readies c.loop-frame.reader c.args.reader.now c.args.writer.now c.loop-frame.writer i.writer i.so_far c.in-Err-frame.error i.id gives (c.in-Ok.ensures.passed ∙ ap (λ (v : ChainValue). passed v.readies c.in-Ok-Some.frame) i.chain) c.in-Err-frame.ensures.writes.0)
+    (write_refused init.shape init.readies c.loop-frame.reader c.args.reader.now c.args.writer.now c.loop-frame.writer i.writer i.so_far greatest_input c.in-Err-frame.error i.id gives (c.in-Ok.ensures.passed ∙ ap (λ (v : ChainValue). passed v.readies c.in-Ok-Some.frame) i.chain) c.in-Err-frame.ensures.writes.0)
 
 pub returns-in-Ok-finish-clause-runs : goal.returns-in-Ok-finish-clause-runs
 returns-in-Ok-finish-clause-runs g c =

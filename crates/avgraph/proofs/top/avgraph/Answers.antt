@@ -11,6 +11,9 @@ returns-clause-stands g c = let a = c.act.ensures in headline.stands greatest_in
 pub returns-clause-names : goal.returns-clause-names
 returns-clause-names g c = let a = c.act.ensures in headline.names greatest_input _ a.outcome _ a.between _ _ a.obeys a.reports
 
+pub returns-clause-limits : goal.returns-clause-limits
+returns-clause-limits g c = let a = c.act.ensures in headline.limits greatest_input _ a.outcome _ a.between _ _ a.obeys a.reports
+
 pub returns-clause-done : goal.returns-clause-done
 returns-clause-done g c = let a = c.act.ensures in headline.done greatest_input _ a.outcome _ a.between _ _ a.obeys a.reports
 

@@ -2,7 +2,7 @@ use Rattle.std.proofs.Common.{rules, ◌≡◌, Result, Ok, Err, OnErr, false, a
 use Rattle.std.proofs.lemmas.Bool.{false≢true}
 use Rattle.std.specs.Result.{is_ok}
 use Rattle.std.proofs.lemmas.Result.{err_from_is_err_and}
-use Rattle.y4m_io.proofs.WrittenLengths.{frame_length}
+use Rattle.y4m_io.proofs.WriteLemmas.{frame_length}
 use Rattle.y4m_io.proofs.writer.Writer.frame.Goals as goal
 
 at_err : {T E : Type 0} (r : Result T E) (Q : Type 0) → is_ok r ≡ false → OnErr r Q → Q

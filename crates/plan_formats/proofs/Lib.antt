@@ -1,0 +1,3 @@
+mod PadLemmas
+mod BelowLemmas
+pub mod PathLemmas

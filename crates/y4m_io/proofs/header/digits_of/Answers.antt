@@ -1,6 +1,0 @@
-use Rattle.std.proofs.lemmas.Int.Digits.{digits_more}
-use Rattle.std.proofs.Common.{arith}
-use Rattle.y4m_io.proofs.header.digits_of.Goals as goal
-
-pub loop-i-preserved : goal.loop-i-preserved
-loop-i-preserved c = digits_more 10 c.args.text.now c.loop-i.i (omega arith) c.loop-i.invariant c.if-not-is_ascii_digit.ensures.bound
