@@ -104,7 +104,7 @@ const REFUSALS: [(&str, &[u8], u8, &str); 8] = [
     ),
     (
         "null",
-        b"YUV4MPEG2 W4 H2 F25:1 Cxyz\nFRAME\n",
+        b"YUV4MPEG2 W4 H2 F25:1 Cxyz\nFRAME\n\x01\x02\x03\x04\x05\x06\x07\x08",
         6,
         "avgraph: BadColour input=0\n",
     ),
@@ -158,14 +158,14 @@ fn damage_leaves_the_frames_before_it(rt: HostRuntime) -> Result<(), Fail> {
     let words = with_text(rt.alloc(), "null")?;
     for (input, said, output) in [
         (
-            b"YUV4MPEG2 W1 H1 Cmono\nFRAME\n0FRAME\n1FRAME\n2FRAME\n".as_slice(),
+            b"YUV4MPEG2 W1 H1 F25:1 Cmono\nFRAME\n\x00FRAME\n\x01FRAME\n\x02FRAME\n".as_slice(),
             "avgraph: Truncated input=0 place=3\n",
-            b"YUV4MPEG2 W1 H1 F25:1 Ip A0:0 Cmono\nFRAME\n0FRAME\n1FRAME\n2".as_slice(),
+            b"YUV4MPEG2 W1 H1 F25:1 Ip A0:0 Cmono\nFRAME\n\x00FRAME\n\x01FRAME\n\x02".as_slice(),
         ),
         (
-            b"YUV4MPEG2 W1 H1 Cmono\nFRAMX\n0".as_slice(),
+            b"YUV4MPEG2 W4 H2 F25:1 Cmono\nFRAMX\n\x01\x02\x03\x04\x05\x06\x07\x08".as_slice(),
             "avgraph: BadFrame input=0 frame=0\n",
-            b"YUV4MPEG2 W1 H1 F25:1 Ip A0:0 Cmono\n".as_slice(),
+            GRAY_HEADER,
         ),
         (
             b"YUV4MPEG2 W1 H1 Cmono\nFRAME\n0YUV4MPEG2 W1".as_slice(),
