@@ -1,4 +1,3 @@
-pub mod HistoryLemmas
 pub mod WholeLemmas
 pub mod WordLemmas
 mod OptionLemmas

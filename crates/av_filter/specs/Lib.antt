@@ -1,4 +1,3 @@
-pub mod Histories
 pub mod Whole
 pub mod Words
 pub mod Decisions

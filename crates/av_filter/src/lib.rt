@@ -4,12 +4,10 @@
 //! of each (`framewise`). Several rules are one list (`rule_set`). Pictures are made in place (`mapping`) or painted
 //! anew (`painting`, `source`).
 //!
-//! Two modules are for those who use filters: the clauses and laws of the trait, said of what was offered and given
-//! (`history`), and whole streams through any filter (`whole`).
+//! Whole streams go through any filter by `whole`.
 #![tactic(auto)]
 
 mod framewise;
-pub mod history;
 mod limits;
 mod mapping;
 mod options;

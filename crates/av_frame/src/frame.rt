@@ -92,6 +92,34 @@ impl Frame {
         self.duration
     }
 
+    /// Shows it at another time, in ticks of its time base.
+    pub fn set_pts(&mut self, pts: i64)
+        requires { IsPts pts }
+        ensures { self.new ≡ record self.old { pts = pts } }
+    {
+        self.pts = pts;
+    }
+
+    /// Shows it for another time, in ticks of its time base.
+    pub fn set_duration(&mut self, duration: i64)
+        requires { IsDuration duration }
+        ensures { self.new ≡ record self.old { duration = duration } }
+    {
+        self.duration = duration;
+    }
+
+    /// The same frame once more. For now each of its planes is a copy.
+    ///
+    /// # Errors
+    /// Out of memory. This frame is then as it was, too.
+    pub fn share(&mut self, alloc: Global, _pools: &mut Pools) -> Result<Frame, NoMemory>
+        ensures shared { IfOk result (λ f. f ≡ self.old) }
+        ensures same { self.new ≡ self.old }
+    {
+        let planes = copy_all(alloc, &self.planes)?;
+        Ok(Frame::new(self.shape, planes, self.pts, self.duration))
+    }
+
     /// One sample.
     pub fn sample(&mut self, plane: u32, row: u32, column: u32) -> i32
         requires plane { plane < planes_of self.old.shape }
@@ -191,6 +219,18 @@ impl Frame {
 
     /// Lets the frame go.
     pub fn release(self) {}
+}
+
+/// A copy of each plane.
+fn copy_all(alloc: Global, planes: &[Plane]) -> Result<Vec<Plane>, NoMemory>
+    ensures { IfOk result (λ copies. copies.items ≡ planes.now) }
+{
+    let mut copies = Vec::new(alloc);
+    for plane in planes {
+        let copy = plane.copy(alloc)?;
+        copies.push(copy)?;
+    }
+    Ok(copies)
 }
 
 /// Puts the rows of each plane in the other order.

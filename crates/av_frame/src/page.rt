@@ -124,6 +124,21 @@ impl Page {
         Ok(Page { bytes, count })
     }
 
+    /// The same bytes, in memory of their own.
+    ///
+    /// # Errors
+    /// Out of memory.
+    pub fn copy(&self, alloc: Global) -> Result<Page, NoMemory>
+        ensures { IfOk result (λ p. p ≡ self.now) }
+    {
+        let mut bytes = Vec::with_capacity(alloc, self.count)?;
+        let _done = bytes.extend_from_slice(&self.bytes);
+        Ok(Page {
+            bytes,
+            count: self.count,
+        })
+    }
+
     /// Copies the bytes from the place `at` on into all of `out`.
     pub fn read(&mut self, at: usize, out: &mut [u8])
         requires { at + length out.old ≤ length self.old }

@@ -56,6 +56,20 @@ impl Plane {
         })
     }
 
+    /// The same rows, in memory of their own.
+    ///
+    /// # Errors
+    /// Out of memory.
+    pub fn copy(&self, alloc: Global) -> Result<Plane, NoMemory>
+        ensures { IfOk result (λ p. p ≡ self.now) }
+    {
+        let page = self.page.copy(alloc)?;
+        Ok(Plane {
+            page,
+            geometry: self.geometry,
+        })
+    }
+
     /// Copies samples of a row, from a column on, into all of `out`.
     pub fn part(&mut self, row: u32, column: u32, out: &mut [u8])
         requires row { row < self.old.height }

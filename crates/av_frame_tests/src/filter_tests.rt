@@ -7,8 +7,9 @@ use crate::cards::Carded;
 use crate::small_filters::FirstFrames;
 use crate::synced::Synced;
 use av_base::{Format, List, NoMemory, PixelFormat, Props, Ratio, Shape, TimeBase, VideoProps};
-use av_filter::{filter_whole, history};
+use av_filter::filter_whole;
 use av_frame::{Edit, Filter, Frame, Given, Pools};
+use filter_history::history;
 use std::alloc::Global;
 use std::thread::Threads;
 

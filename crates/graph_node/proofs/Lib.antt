@@ -1,0 +1,13 @@
+pub mod InletLemmas
+pub mod OutletLemmas
+pub mod FunctionLemmas
+pub mod StepLemmas
+pub mod NodeLemmas
+pub mod LoopLemmas
+pub mod BesideLemmas
+pub mod SaysLemmas
+pub mod IdleLemmas
+pub mod DropLemmas
+pub mod MarkLemmas
+pub mod EndLemmas
+pub mod NewLemmas

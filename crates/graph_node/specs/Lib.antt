@@ -1,0 +1,4 @@
+pub mod Times
+pub mod Ports
+pub mod Laws
+pub mod Nodes
