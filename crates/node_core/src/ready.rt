@@ -45,6 +45,14 @@ impl Ready {
         }
     }
 
+    /// The shapes of the inputs, by their pads. All filters that there are have one input and one output.
+    pub fn ins(&self) -> &List<Shape>
+        ensures ins { result.now ≡ self.now.ins }
+        ensures one_each { (s out : Shape) × (self.now.ins ≡ s ∷ []) × (self.now.outs ≡ out ∷ []) }
+    {
+        &self.ins
+    }
+
     /// The shapes of the outputs, by their pads. They are lawful and within the limits.
     pub fn outs(&self) -> &List<Shape>
         ensures outs { result.now ≡ self.now.outs }
